@@ -1,0 +1,2 @@
+-- What the layers above cite of the check.
+pub mod Laws

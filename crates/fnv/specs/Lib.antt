@@ -1,0 +1,2 @@
+-- What the contracts of `fnv` cite.
+pub mod Fnv

@@ -1,0 +1,10 @@
+-- The laws of the kit, each family in a file of its own; README.md beside src/ lists them on one page.
+pub mod Bools
+pub mod Ranges
+pub mod Loops
+pub mod Listings
+pub mod Changes
+pub mod Queues
+pub mod Puts
+pub mod Fields
+pub mod Signs

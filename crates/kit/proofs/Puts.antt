@@ -1,0 +1,55 @@
+-- Pieces put into a buffer: `put d at e`, `placed d at e`, one behind the other.
+use mathlib.Core.Path.{_≡_, refl, sym, ap, ap₂, _∙_}
+use mathlib.Core.Bool.{Bool, true, false}
+use mathlib.Core.List.{List, [], _∷_, _++_, append-nil, append-assoc}
+use Prim.Native.Nat.{ℕ, _+_, _≤_, _<_}
+use native.Mathlib.Nat.{add-zero, zero-add, add-assoc}
+use native.Mathlib.Omega.{arith}
+use borrow.Author.Tests.{le-leb, lt-leb}
+use lib.ListN.{length, take, drop, length-append, length-drop, take-append-drop}
+use lib.Seq.{length-take-le, take-at, drop-append-add, drop-drop}
+use Rattle.kit.specs.Lists.{put, placed}
+
+module _ {A : Type 0} where
+  pub length-put : (d : List A) (at : ℕ) (e : List A) → at + length e ≤ length d → length (put d at e) ≡ length d
+  unfolding put
+  length-put d at e h = let l : at ≤ length d = omega arith in simp (length-append, length-take-le at d l, length-drop) (omega arith)
+
+  pub put-none : (d : List A) (at : ℕ) → put d at [] ≡ d
+  unfolding put
+  put-none d at = ap₂ (λ (r : List A) (k : ℕ). r ++ drop k d) (append-nil (take at d)) (add-zero at) ∙ take-append-drop at d
+
+  -- at the front
+  pub put-front : (d e : List A) → put d 0 e ≡ e ++ drop (length e) d
+  unfolding put
+  put-front d e = ap (λ (k : ℕ). e ++ drop k d) (zero-add (length e))
+
+  -- the second begins where the first ends
+  pub put-put : (d : List A) (at at′ : ℕ) (e f : List A) → at′ ≡ at + length e → at′ ≤ length d → put (put d at e) at′ f ≡ put d at (e ++ f)
+  unfolding put
+  put-put d at at′ e f q h =
+      let p : List A = take at d ++ e in
+      let rest : List A = drop (at + length e) d in
+      let l : at ≤ length d = omega arith in
+      let lp : length p ≡ at′ = length-append (take at d) e ∙ ap (λ (k : ℕ). k + length e) (length-take-le at d l) ∙ sym q in
+      let back : drop (at′ + length f) (p ++ rest) ≡ drop (at + (length e + length f)) d =
+      ap (λ (k : ℕ). drop (k + length f) (p ++ rest)) (sym lp) ∙ drop-append-add p rest (length f) ∙ drop-drop (length f) (at + length e) d
+      ∙ ap (λ (k : ℕ). drop k d) (add-assoc at (length e) (length f)) in
+      ap₂ (λ (x y : List A). x ++ f ++ y) (take-at p rest at′ lp) back
+      ∙ ap₂ (λ (x : List A) (k : ℕ). x ++ drop (at + k) d) (append-assoc (take at d) e f) (sym (length-append e f))
+
+  -- what stands up to the end of the piece
+  pub take-put : (d : List A) (at : ℕ) (e : List A) → at + length e ≤ length d → take (at + length e) (put d at e) ≡ take at d ++ e
+  unfolding put
+  take-put d at e h =
+      let l : at ≤ length d = omega arith in
+      take-at (take at d ++ e) (drop (at + length e) d) (at + length e) (length-append (take at d) e ∙ ap (λ (k : ℕ). k + length e) (length-take-le at d l))
+
+  -- what ends inside the buffer is put, and what does not leaves it as it was
+  pub placed-in : (d : List A) (at : ℕ) (e : List A) → at + length e ≤ length d → placed d at e ≡ put d at e
+  unfolding placed
+  placed-in d at e h = rw (le-leb (at + length e) (length d) h)
+
+  pub placed-out : (d : List A) (at : ℕ) (e : List A) → length d < at + length e → placed d at e ≡ d
+  unfolding placed
+  placed-out d at e h = rw (lt-leb (at + length e) (length d) h)

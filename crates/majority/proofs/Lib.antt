@@ -1,0 +1,3 @@
+-- What the layers above cite of the majority.
+pub mod Majorities
+pub mod Cases

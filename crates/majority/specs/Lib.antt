@@ -1,0 +1,2 @@
+-- What the contracts of `majority` cite.
+pub mod Majority

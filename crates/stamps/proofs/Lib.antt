@@ -1,0 +1,3 @@
+-- What the layers above cite of stamps.
+pub mod Laws
+pub mod Cases

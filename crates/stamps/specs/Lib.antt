@@ -1,0 +1,3 @@
+-- What the contracts of `stamps` cite.
+pub mod Stamps
+pub mod Issue
