@@ -1,6 +1,6 @@
 -- One law set for each kind of loop over 0..n. The invariant is a record, what the turns before the i-th found; `r` is what the turn's test
 -- gave, `r ≡ p i` what it means. Answer every need of such a loop by `search` with the kind's ruleset, at the end of this file.
-use mathlib.Core.Path.{_≡_, refl, sym, _∙_}
+use mathlib.Core.Path.{_≡_, refl, sym, ap, _∙_}
 use mathlib.Core.Bool.{Bool, true, false, not, cond}
 use Prim.Native.Nat.{ℕ, _+_, _≤_, _<_, max}
 use borrow.Author.Tests.{not-true, not-false}
@@ -28,6 +28,14 @@ any-found {n} {p} {i} m l e f = sym (any-hit n i p l (sym e ∙ f))
 
 pub any-over : {n : ℕ} {p : ℕ → Bool} {i : ℕ} → Missed n p i → n ≤ i → false ≡ any n p
 any-over {n} {p} {i} m l = let e : n ≡ i = omega (arith, m .in-range) in rw (e, m .none)
+
+-- ---- `for i in 0..n { if test(i) { return false; } } true` computes `not (any n p)`; its invariant is Missed
+
+pub none-found : {n : ℕ} {p : ℕ → Bool} {i : ℕ} {r : Bool} → Missed n p i → i < n → r ≡ p i → r ≡ true → false ≡ not (any n p)
+none-found m l e f = ap not (any-found m l e f)
+
+pub none-over : {n : ℕ} {p : ℕ → Bool} {i : ℕ} → Missed n p i → n ≤ i → true ≡ not (any n p)
+none-over m l = ap not (any-over m l)
 
 -- ---- `for i in 0..n { if !test(i) { return false; } } true` computes `all n p`
 
@@ -101,6 +109,8 @@ topped-over {n} {p} {f} {i} {m} t l = let e : n ≡ i = omega (arith, t .in-rang
 -- ---- the rulesets, one for a kind of loop
 
 pub ruleset somes = (missed-none, missed-more, any-found, any-over, arith)
+
+pub ruleset nones = (missed-none, missed-more, none-found, none-over, arith)
 
 pub ruleset alls = (held-none, held-more, all-failed, all-over, arith)
 

@@ -1,0 +1,3 @@
+-- The laws of readings.
+pub mod Orders
+pub mod Cases

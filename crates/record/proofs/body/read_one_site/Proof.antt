@@ -1,0 +1,18 @@
+-- `record::body::read_one_site` meets its contract: as `read_tell`.
+use borrow.Author.Needs.{needs}
+use Rattle.record.specs.Bodies.{siteStep}
+use Rattle.record.proofs.body.read_one_site.Statement.{statement}
+use Rattle.record.proofs.body.read_one_site.Tie as tie
+
+blank-step-requires : tie.Need-blank-step-requires
+blank-step-requires c κs = search needs
+
+byte-at-requires : tie.Need-byte-at-requires
+byte-at-requires c κs = search needs
+
+returns : tie.Need-returns
+unfolding siteStep
+returns c = rw (c .before .blank-step .ensures, c .byte-at .ensures)
+
+pub read-one-site-spec : {M : Type 1} → statement M
+read-one-site-spec = tie.close (tie.spec blank-step-requires byte-at-requires returns)

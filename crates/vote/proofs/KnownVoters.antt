@@ -1,0 +1,279 @@
+-- The voters that a site knows: what each function makes of them, and the laws by which all others see them.
+use mathlib.Core.Path.{_≡_, refl, sym, _∙_}
+use mathlib.Core.Bool.{Bool, true, false, not, _&&_, _||_, cond, and-false, or-false, or-true}
+use mathlib.Core.List.{List}
+use Prim.Native.Nat.{ℕ, zero, suc, _+_, _*_, _/_, _%_, _≤_, _<_}
+use native.Mathlib.Numerals.{add-one}
+use native.Mathlib.Omega.{arith}
+use borrow.Author.Tests.{lt-ltb, le-ltb, ltb-true, eq-eqb, ne-eqb}
+use lib.Dec.{eqb, ltb}
+use lib.ListN.{length, getD, set, replicate, length-set, getD-replicate, List·getD-eq-default}
+use lib.Seq.{ext-getD, getD-set-same, getD-set-other, set-getD, set-out}
+use Rattle.kit.specs.Lists.{listed}
+use Rattle.kit.specs.Range.{number, implies}
+use Rattle.kit.proofs.Bools.{and-left, and-right, implied, implying, by-eq, by-lt}
+use Rattle.kit.proofs.Listings.{length-listed, listed-at}
+use Rattle.kit.proofs.Ranges.{all-at, all-of, number-le, number-same, number-grows, number-none}
+use Rattle.vote.specs.Voters.{knows, votersOf, onlyVoter, joinUpTo, joinVoters, hasVoter, votersKnown, noKnown, putVoter, areAmong, clearUpTo, clearVoters}
+use Rattle.vote.proofs.Rows.{row-in, row-known, row-number, length-clearUpTo}
+
+-- ---- as the code asks and makes them; `at` is the place as an index
+
+pub unknown-place : (known : List Bool) {at p : ℕ} (u : ℕ) → at ≡ p → 15 < at → false ≡ knows known p u
+unfolding knows
+unknown-place known {at} {p} u e h = rw (le-ltb p 16 (omega arith))
+
+pub unknown-voter : (known : List Bool) (p u : ℕ) → 6 < u → false ≡ knows known p u
+unfolding knows
+unknown-voter known p u h = rw (le-ltb u 7 (omega arith), and-false)
+
+-- inside the 16 places and seven voters
+known-is : (known : List Bool) (p u : ℕ) → p < 16 → u < 7 → getD known (7 * p + u) false ≡ knows known p u
+unfolding knows
+known-is known p u h l = rw (lt-ltb p 16 h, lt-ltb u 7 l)
+
+pub known-at : (known : List Bool) {at p : ℕ} (u : ℕ) → at ≡ p → at ≤ 15 → u ≤ 6 → getD known (7 * at + u) false ≡ knows known p u
+known-at known {at} {p} u e h l = rw e (known-is known p u (omega arith) (omega arith))
+
+pub only-in : {at u : ℕ} → at ≡ u → at < 7 → set (replicate 7 false) at true ≡ onlyVoter u
+unfolding onlyVoter
+only-in {at} {u} e h =
+    ext-getD false (set (replicate 7 false) at true) (listed 7 (eqb u)) (length-set (replicate 7 false) at true ∙ sym (length-listed 7 (eqb u)))
+    (λ k l. let kl : k < 7 = rw (length-set (replicate 7 false) at true) at l in
+    rw (listed-at 7 k (eqb u) false kl)
+    (by-eq k at (λ q. rw (q, e, getD-set-same (replicate 7 false) u true false (omega arith), eq-eqb u u refl))
+    (λ ne. getD-set-other (replicate 7 false) at k true false ne ∙ getD-replicate 7 k false false kl ∙ sym (ne-eqb u k (λ z. ne (sym z ∙ sym e))))))
+
+pub only-out : {at u : ℕ} → at ≡ u → 7 ≤ at → replicate 7 false ≡ onlyVoter u
+unfolding onlyVoter
+only-out {at} {u} e h =
+    ext-getD false (replicate 7 false) (listed 7 (eqb u)) (sym (length-listed 7 (eqb u)))
+    (λ k l. getD-replicate 7 k false false l ∙ sym (ne-eqb u k (λ z. omega arith)) ∙ sym (listed-at 7 k (eqb u) false l))
+
+pub joined-none : (known : List Bool) (p : ℕ) (more : List Bool) → known ≡ joinUpTo 0 known p more
+unfolding joinUpTo
+joined-none known p more = refl
+
+pub joined-more
+    : (known : List Bool) {at p : ℕ} (more : List Bool) (u : ℕ) {w : List Bool} {b : Bool} → at ≡ p → w ≡ joinUpTo u known p more
+    → b ≡ (getD w (7 * at + u) false || getD more u false) → set w (7 * at + u) b ≡ joinUpTo (u + 1) known p more
+unfolding joinUpTo
+joined-more known more u e f g = rw (g, f, e, add-one u)
+
+pub joined-over : (known : List Bool) (p : ℕ) (more : List Bool) (u : ℕ) {w : List Bool} → w ≡ joinUpTo u known p more → u ≤ 7 → 7 ≤ u → w ≡ joinVoters known p more
+unfolding joinVoters
+joined-over known p more u f l h = let e : u ≡ 7 = omega arith in rw (← e) f
+
+joined-out-up-to : (n : ℕ) (known : List Bool) (p : ℕ) (more : List Bool) → length known ≤ 7 * p → known ≡ joinUpTo n known p more
+unfolding joinUpTo
+joined-out-up-to zero known p more h = refl
+joined-out-up-to (suc n) known p more h =
+    rw (← joined-out-up-to n known p more h) (sym (set-out known (7 * p + n) _ (omega arith)))
+
+-- a place above 15 has no voters
+pub joined-out : (known : List Bool) {at p : ℕ} (more : List Bool) → length known ≡ 112 → at ≡ p → 15 < at → known ≡ joinVoters known p more
+unfolding joinVoters
+joined-out known {at} {p} more len e h = joined-out-up-to 7 known p more (omega arith)
+
+-- ---- what all others see
+
+-- each known list has its 112 tests before and after
+length-joined-up-to : (n : ℕ) (known : List Bool) (p : ℕ) (more : List Bool) → length (joinUpTo n known p more) ≡ length known
+unfolding joinUpTo
+length-joined-up-to zero known p more = refl
+length-joined-up-to (suc n) known p more =
+    length-set (joinUpTo n known p more) (7 * p + n) _ ∙ length-joined-up-to n known p more
+
+-- joining keeps the length
+pub length-joinVoters : (known : List Bool) (p : ℕ) (more : List Bool) → length (joinVoters known p more) ≡ length known
+unfolding joinVoters
+length-joinVoters known p more = length-joined-up-to 7 known p more
+
+module _ (known : List Bool) (p : ℕ) (more : List Bool) where
+  -- a test that is none of the first n of place p
+  joined-there : (n k : ℕ) → ((u : ℕ) → u < n → k ≡ 7 * p + u → ⊥) → getD (joinUpTo n known p more) k false ≡ getD known k false
+  unfolding joinUpTo
+  joined-there zero k h = refl
+  joined-there (suc n) k h =
+      getD-set-other (joinUpTo n known p more) (7 * p + n) k _ false (h n (omega arith)) ∙ joined-there n k (λ u l. h u (omega arith))
+
+  -- one of them
+  joined-here
+      : (n u : ℕ) → u < n → 7 * p + u < length known
+      → getD (joinUpTo n known p more) (7 * p + u) false ≡ (getD known (7 * p + u) false || getD more u false)
+  unfolding joinUpTo
+  joined-here zero u h l = absurd (let z : ⊥ = omega arith in z)
+  joined-here (suc n) u h l =
+      by-eq u n
+      (λ e. rw (e, getD-set-same (joinUpTo n known p more) (7 * p + n) _ false (rw (length-joined-up-to n known p more, ← e) l), joined-there n (7 * p + n) (λ v k q. omega arith)))
+      (λ ne. getD-set-other (joinUpTo n known p more) (7 * p + n) (7 * p + u) _ false (λ q. ne (omega arith)) ∙ joined-here n u (omega (arith, ne)) l)
+
+  -- who is known after voters were joined at place p: who was, and those
+  pub knows-joined
+      : (q u : ℕ) → length known ≡ 112 → p < 16 → q < 16 → u < 7
+      → knows (joinVoters known p more) q u ≡ (knows known q u || (eqb p q && getD more u false))
+  unfolding knows joinVoters
+  knows-joined q u len hp hq hu =
+      rw (lt-ltb q 16 hq, lt-ltb u 7 hu)
+      (by-eq p q (λ e. rw (← e, eq-eqb p p refl) (joined-here 7 u hu (omega arith)))
+      (λ ne. rw (ne-eqb p q ne, or-false) (joined-there 7 (7 * q + u) (λ v k e. ne (omega arith)))))
+
+  -- joining loses no voter
+  pub known-stays : (q u : ℕ) → length known ≡ 112 → p < 16 → q < 16 → u < 7 → knows known q u ≡ true → knows (joinVoters known p more) q u ≡ true
+  known-stays q u len hp hq hu e = rw (knows-joined q u len hp hq hu, e)
+
+  -- those that were joined are known
+  pub known-new : (u : ℕ) → length known ≡ 112 → p < 16 → u < 7 → getD more u false ≡ true → knows (joinVoters known p more) p u ≡ true
+  known-new u len hp hu e = rw (knows-joined p u len hp hp hu, eq-eqb p p refl, e, or-true)
+
+  -- and nobody else is
+  pub known-before : (u : ℕ) → length known ≡ 112 → p < 16 → u < 7 → getD more u false ≡ false → knows (joinVoters known p more) p u ≡ knows known p u
+  known-before u len hp hu e = rw (knows-joined p u len hp hp hu, e, and-false, or-false)
+
+  -- another place's voters stay as they were
+  pub known-elsewhere : (q u : ℕ) → length known ≡ 112 → p < 16 → q < 16 → u < 7 → (p ≡ q → ⊥) → knows (joinVoters known p more) q u ≡ knows known q u
+  known-elsewhere q u len hp hq hu ne = rw (knows-joined q u len hp hq hu, ne-eqb p q ne, or-false)
+
+  repeated-up-to : (n : ℕ) → n ≤ 7 → p < 16 → ((u : ℕ) → u < 7 → getD more u false ≡ true → knows known p u ≡ true) → joinUpTo n known p more ≡ known
+  unfolding joinUpTo
+  repeated-up-to zero h hp all = refl
+  repeated-up-to (suc n) h hp all =
+      rw (repeated-up-to n (omega arith) hp all, same (getD more n false) (all n (omega arith)), set-getD known (7 * p + n) false)
+    where
+      same : (m : Bool) → (m ≡ true → knows known p n ≡ true) → (getD known (7 * p + n) false || m) ≡ getD known (7 * p + n) false
+      same true a = rw (known-is known p n hp (omega arith), a refl)
+      same false a = or-false (getD known (7 * p + n) false)
+
+  -- a repeated voter counts once: joining voters who are known already changes nothing
+  pub joined-again : p < 16 → ((u : ℕ) → u < 7 → getD more u false ≡ true → knows known p u ≡ true) → joinVoters known p more ≡ known
+  unfolding joinVoters
+  joined-again hp all = repeated-up-to 7 (omega arith) hp all
+
+-- a voter who is known is one of seven, of one of 16 places
+pub known-in : (known : List Bool) (p u : ℕ) → knows known p u ≡ true → (p < 16) × (u < 7)
+unfolding knows
+known-in known p u e =
+    let both = and-left (ltb p 16 && ltb u 7) (getD known (7 * p + u) false) e in
+    (ltb-true p 16 (and-left (ltb p 16) (ltb u 7) both), ltb-true u 7 (and-right (ltb p 16) (ltb u 7) both))
+
+-- no voters are known where nothing was said
+pub knows-nobody : (p u : ℕ) → knows noKnown p u ≡ false
+unfolding knows noKnown
+knows-nobody p u =
+    by-lt (7 * p + u) 112 (λ h. rw (getD-replicate 112 (7 * p + u) false false h, and-false))
+    (λ h. rw (List·getD-eq-default (replicate 112 false) false {n = 7 * p + u} h, and-false))
+
+-- the voters of place p, voter by voter
+pub votersOf-at : (known : List Bool) (p u : ℕ) → u < 7 → getD (votersOf known p) u false ≡ knows known p u
+unfolding votersOf
+votersOf-at known p u h = listed-at 7 u (knows known p) false h
+
+pub length-votersOf : (known : List Bool) (p : ℕ) → length (votersOf known p) ≡ 7
+unfolding votersOf
+length-votersOf known p = length-listed 7 (knows known p)
+
+-- one voter alone
+pub knows-only : (me u : ℕ) → u < 7 → getD (onlyVoter me) u false ≡ eqb me u
+unfolding onlyVoter
+knows-only me u h = listed-at 7 u (eqb me) false h
+
+pub length-onlyVoter : (me : ℕ) → length (onlyVoter me) ≡ 7
+unfolding onlyVoter
+length-onlyVoter me = length-listed 7 (eqb me)
+
+-- ---- how many
+
+-- so many voters are known
+pub voters-number : (known : List Bool) (p : ℕ) → votersKnown known p ≡ number 7 (knows known p)
+unfolding votersKnown
+voters-number known p = row-number (votersOf known p) ∙ number-same (hasVoter (votersOf known p)) (knows known p) 7 (λ u h. row-known known p u h)
+
+pub voters-few : (known : List Bool) (p : ℕ) → votersKnown known p ≤ 7
+voters-few known p = rw (voters-number known p) (number-le 7 (knows known p))
+
+-- where the same voters are known, as many are
+pub voters-same : (known other : List Bool) (p q : ℕ) → ((u : ℕ) → u < 7 → knows known p u ≡ knows other q u) → votersKnown known p ≡ votersKnown other q
+voters-same known other p q h = rw (voters-number known p, voters-number other q, number-same (knows known p) (knows other q) 7 h)
+
+-- where more voters are known, not fewer are
+pub voters-grow : (known other : List Bool) (p q : ℕ) → ((u : ℕ) → u < 7 → knows known p u ≡ true → knows other q u ≡ true) → votersKnown known p ≤ votersKnown other q
+voters-grow known other p q h = rw (voters-number known p, voters-number other q) (number-grows 7 (knows known p) (knows other q) h)
+
+-- nobody known counts as none
+pub voters-nobody : (p : ℕ) → votersKnown noKnown p ≡ 0
+voters-nobody p = rw (voters-number noKnown p) (number-none 7 (knows noKnown p) (λ u h. knows-nobody p u))
+
+-- joining takes no voter away
+pub voters-joined
+    : (known : List Bool) (p : ℕ) (more : List Bool) (q : ℕ) → length known ≡ 112 → p < 16 → q < 16 → votersKnown known q ≤ votersKnown (joinVoters known p more) q
+voters-joined known p more q len hp hq =
+    voters-grow known (joinVoters known p more) q q (λ u h e. known-stays known p more q u len hp hq h e)
+
+-- and leaves another place as it was
+pub voters-elsewhere
+    : (known : List Bool) (p : ℕ) (more : List Bool) (q : ℕ) → length known ≡ 112 → p < 16 → q < 16 → (p ≡ q → ⊥) → votersKnown (joinVoters known p more) q ≡ votersKnown known q
+voters-elsewhere known p more q len hp hq ne =
+    voters-same (joinVoters known p more) known q q (λ u h. known-elsewhere known p more q u len hp hq h ne)
+
+-- two lists that know the same voters are one
+pub knows-same
+    : (known other : List Bool) → length known ≡ 112 → length other ≡ 112 → ((p u : ℕ) → p < 16 → u < 7 → knows known p u ≡ knows other p u) → known ≡ other
+knows-same known other a b h =
+    ext-getD false known other (a ∙ sym b)
+    (λ i l. let il : i < 112 = rw a at l in
+    let e : 7 * (i / 7) + i % 7 ≡ i = omega arith in
+    (rw e at (known-is known (i / 7) (i % 7) (omega arith) (omega arith))) ∙ h (i / 7) (i % 7) (omega arith) (omega arith)
+    ∙ sym (rw e at (known-is other (i / 7) (i % 7) (omega arith) (omega arith))))
+
+-- ---- the same of rows
+
+pub knows-joined-row
+    : (known : List Bool) (p : ℕ) (more : List Bool) (q u : ℕ) → length known ≡ 112 → p < 16 → q < 16 → u < 7
+    → knows (joinVoters known p more) q u ≡ (knows known q u || (eqb p q && hasVoter more u))
+knows-joined-row known p more q u len hp hq hu = rw (knows-joined known p more q u len hp hq hu, row-in more u (omega arith))
+
+pub only-row : (me u : ℕ) → u < 7 → hasVoter (onlyVoter me) u ≡ eqb me u
+only-row me u h = rw (← row-in (onlyVoter me) u (omega arith)) (knows-only me u h)
+
+-- a row with one voter changed
+pub put-row : (row : List Bool) (u : ℕ) (b : Bool) (v : ℕ) → length row ≡ 7 → u < 7 → v < 7 → hasVoter (putVoter row u b) v ≡ cond (eqb u v) b (hasVoter row v)
+unfolding putVoter
+put-row row u b v l hu hv =
+    rw (← row-in (set row u b) v (omega arith), ← row-in row v (omega arith))
+    (by-eq u v (λ e. rw (eq-eqb u v e, ← e) (getD-set-same row u b false (omega arith)))
+    (λ ne. rw (ne-eqb u v ne) (getD-set-other row u v b false (λ e. ne (sym e)))))
+
+-- one row among another, voter by voter
+pub among-has : (a b : List Bool) (u : ℕ) → areAmong a b ≡ true → u < 7 → hasVoter a u ≡ true → hasVoter b u ≡ true
+unfolding areAmong
+among-has a b u e h y = implied (hasVoter a u) (hasVoter b u) (all-at (λ v. implies (hasVoter a v) (hasVoter b v)) 7 u e h) y
+
+pub among-of : (a b : List Bool) → ((u : ℕ) → u < 7 → hasVoter a u ≡ true → hasVoter b u ≡ true) → areAmong a b ≡ true
+unfolding areAmong
+among-of a b f = all-of 7 (λ v. implies (hasVoter a v) (hasVoter b v)) (λ u h. implying (hasVoter a u) (f u h))
+
+-- ---- forgetting
+
+module _ (known : List Bool) (p : ℕ) where
+  cleared-there : (n k : ℕ) → ((u : ℕ) → u < n → k ≡ 7 * p + u → ⊥) → getD (clearUpTo n known p) k false ≡ getD known k false
+  unfolding clearUpTo
+  cleared-there zero k h = refl
+  cleared-there (suc n) k h =
+      getD-set-other (clearUpTo n known p) (7 * p + n) k false false (h n (omega arith)) ∙ cleared-there n k (λ u l. h u (omega arith))
+
+  cleared-here : (n u : ℕ) → u < n → 7 * p + u < length known → getD (clearUpTo n known p) (7 * p + u) false ≡ false
+  unfolding clearUpTo
+  cleared-here zero u h l = absurd (let z : ⊥ = omega arith in z)
+  cleared-here (suc n) u h l =
+      by-eq u n
+      (λ e. rw e (getD-set-same (clearUpTo n known p) (7 * p + n) false false (rw (length-clearUpTo n known p, ← e) l)))
+      (λ ne. getD-set-other (clearUpTo n known p) (7 * p + n) (7 * p + u) false false (λ q. ne (omega arith)) ∙ cleared-here n u (omega (arith, ne)) l)
+
+  -- who is known once place p is forgotten: who was, of the other places
+  pub knows-cleared
+      : (q u : ℕ) → length known ≡ 112 → p < 16 → q < 16 → u < 7 → knows (clearVoters known p) q u ≡ (not (eqb p q) && knows known q u)
+  unfolding knows clearVoters
+  knows-cleared q u len hp hq hu =
+      rw (lt-ltb q 16 hq, lt-ltb u 7 hu)
+      (by-eq p q (λ e. rw (eq-eqb p q e, ← e) (cleared-here 7 u hu (omega arith)))
+      (λ ne. rw (ne-eqb p q ne) (cleared-there 7 (7 * q + u) (λ v k e. ne (omega arith)))))

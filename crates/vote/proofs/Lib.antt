@@ -1,0 +1,16 @@
+-- Laws of what one site does, each family in a file of its own.
+pub mod Tests
+pub mod Gathers
+pub mod Marks
+pub mod KnownVoters
+pub mod Rows
+pub mod Queues
+pub mod Writes
+pub mod VerdictsDue
+pub mod Conflicts
+pub mod Considering
+pub mod Fields
+pub mod Said
+pub mod After
+pub mod Shapes
+pub mod Cases

@@ -1,0 +1,41 @@
+-- A site's word on the request at a place, as the code writes it; `at` is the place as an index, and a place above 15 has none.
+use mathlib.Core.Path.{_≡_, sym, _∙_}
+use mathlib.Core.List.{List, map}
+use Prim.Native.Nat.{ℕ, _<_, _≤_}
+use native.Mathlib.Omega.{arith}
+use lib.ListN.{length, set, length-map, List·getD-eq-default}
+use lib.Seq.{set-out}
+use Rattle.vote.specs.Data.{noVote, voteAt, withVotes}
+use Rattle.vote.specs.Verdicts.{noted, withVerdict}
+use Rattle.vote.specs.Voting.{marked, withMark}
+use Rattle.vote.specs.declared.data.Mark.{Mark}
+use Rattle.vote.specs.declared.data.Site.{Site}
+use Rattle.vote.specs.declared.data.Verdict.{Verdict}
+use Rattle.vote.specs.declared.data.Vote.{Vote}
+
+-- an array of structs is as long as its image
+pub length-mapped : (X Y : Type 0) (f : X → Y) (l : List X) (n : ℕ) → length (map f l) ≡ n → length l ≡ n
+length-mapped X Y f l n e = sym (length-map l f) ∙ e
+
+pub vote-out : (votes : List Vote) {at p : ℕ} → length votes ≡ 16 → at ≡ p → 15 < at → noVote ≡ voteAt votes p
+vote-out votes l e h = sym (List·getD-eq-default votes noVote (omega arith))
+
+pub vote-in : (votes : List Vote) {at p : ℕ} → at ≡ p → voteAt votes at ≡ voteAt votes p
+vote-in votes e = rw e
+
+module _ (s : Site) {at p : ℕ} where
+  pub marks-out : (m : Mark) → length (s .votes) ≡ 16 → at ≡ p → 15 < at → s ≡ marked s p m
+  unfolding marked
+  marks-out m l e h = rw (set-out (s .votes) p (withMark m (voteAt (s .votes) p)) (omega arith))
+
+  pub marks-in : (m : Mark) → at ≡ p → withVotes (set (s .votes) at (withMark m (voteAt (s .votes) at))) s ≡ marked s p m
+  unfolding marked
+  marks-in m e = rw e
+
+  pub notes-out : (d : Verdict) → length (s .votes) ≡ 16 → at ≡ p → 16 ≤ at → s ≡ noted s p d
+  unfolding noted
+  notes-out d l e h = rw (set-out (s .votes) p (withVerdict d (voteAt (s .votes) p)) (omega arith))
+
+  pub notes-in : (d : Verdict) → at ≡ p → withVotes (set (s .votes) at (withVerdict d (voteAt (s .votes) at))) s ≡ noted s p d
+  unfolding noted
+  notes-in d e = rw e

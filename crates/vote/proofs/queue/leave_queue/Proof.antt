@@ -1,0 +1,9 @@
+-- `vote::queue::leave_queue` meets its contract: an empty queue, and one with a place to leave.
+use borrow.Author.Needs.{needs}
+use Rattle.vote.proofs.Queues.{leaves-empty, leaves-some}
+use Rattle.vote.proofs.queue.leave_queue.Statement.{statement}
+use Rattle.vote.proofs.queue.leave_queue.Tie as tie
+
+pub leave-queue-spec : {M : Type 1} → statement M
+leave-queue-spec =
+    tie.close (tie.spec (λ c. search leaves-empty) (λ c κs. search needs) (λ c. search needs) (λ c. search leaves-some))

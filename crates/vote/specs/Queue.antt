@@ -1,0 +1,26 @@
+-- A site's queue of deferred requests: the first `waiting` of 16 places count, the others are 0.
+use Prim.Native.Nat.{ℕ, _+_, _-_}
+use mathlib.Core.Bool.{cond}
+use mathlib.Core.List.{List}
+use lib.Dec.{eqb, ltb}
+use lib.ListN.{getD, set}
+use Rattle.kit.specs.Lists.{without}
+use Rattle.kit.specs.Range.{first}
+use Rattle.vote.specs.Data.{withQueue}
+use Rattle.vote.specs.declared.data.Site.{Site}
+
+-- the request place at place i of the queue
+abbrev pub queuedAt : List ℕ → ℕ → ℕ
+queuedAt queue i = getD queue i 0
+
+-- "A deferred request joins the end of that site's queue." A full queue, which no sound table has then, takes no more.
+unfoldable pub joinsQueue : Site → ℕ → Site
+joinsQueue s p = cond (ltb (s .waiting) 16) (withQueue (set (s .queue) (s .waiting) p) (s .waiting + 1) s) s
+
+-- the request at place i of the queue leaves it; those behind it move up
+unfoldable pub leavesQueue : Site → ℕ → Site
+leavesQueue s i = cond (eqb (s .waiting) 0) s (withQueue (without 0 (s .queue) i) (s .waiting - 1) s)
+
+-- where request place p stands among the first w of the queue, and w where it does not
+unfoldable pub placeInQueue : List ℕ → ℕ → ℕ → ℕ
+placeInQueue queue w p = first w (λ i. eqb (queuedAt queue i) p)
