@@ -1,0 +1,41 @@
+-- `table::parts::is_queue_exact` meets its contract: one test after the other.
+use mathlib.Core.Path.{_≡_}
+use mathlib.Core.Bool.{Bool, true, false, not}
+use Prim.Native.Nat.{ℕ, _<_, _≤_}
+use borrow.Author.Tests.{lt-leb, le-leb, not-true, not-false}
+use borrow.Author.Needs.{needs}
+use lib.Dec.{eqb, ltb}
+use Rattle.kit.specs.Range.{all, one, number}
+use Rattle.vote.specs.Data.{isDeferred, voteAt}
+use Rattle.vote.specs.Queue.{queuedAt}
+use Rattle.vote.specs.declared.data.Site.{Site}
+use Rattle.table.specs.Sound.{timesQueued, queueExact}
+use Rattle.table.proofs.parts.is_queue_exact.Statement.{statement}
+use Rattle.table.proofs.parts.is_queue_exact.Tie as tie
+
+module _ (s : Site) {w : ℕ} (e : w ≡ s .waiting) where
+  too-many : 16 < w → false ≡ queueExact s
+  unfolding queueExact
+  too-many h = rw (← e, lt-leb w 16 h)
+
+  module _ {r : Bool} (h : w ≤ 16) (f : r ≡ all w (λ i. ltb (queuedAt (s .queue) i) 16)) where
+    no-place : not r ≡ true → false ≡ queueExact s
+    unfolding queueExact
+    no-place k = rw (← e, le-leb w 16 h, ← f, not-true r k)
+
+    exact
+        : {g : Bool} → not r ≡ false → g ≡ all 16 (λ p. eqb (number w (λ i. eqb (queuedAt (s .queue) i) p)) (one (isDeferred (voteAt (s .votes) p .mark))))
+        → g ≡ queueExact s
+    unfolding queueExact timesQueued
+    exact k l = rw (← e, le-leb w 16 h, ← f, not-false r k) l
+
+pub is-queue-exact-spec : {M : Type 1} → statement M
+is-queue-exact-spec =
+    tie.close
+    (tie.spec
+    (λ c κs. search needs)
+    (λ c. search too-many)
+    (λ c κs. search needs)
+    (λ c. search no-place)
+    (λ c κs. search needs)
+    (λ c. search exact))

@@ -1,0 +1,21 @@
+-- `table::parts::is_queued_right` meets its contract.
+use mathlib.Core.Path.{_≡_}
+use mathlib.Core.Bool.{Bool}
+use Prim.Native.Nat.{ℕ}
+use borrow.Author.Needs.{needs}
+use lib.Dec.{eqb}
+use Rattle.kit.specs.Range.{one}
+use Rattle.table.proofs.parts.is_queued_right.Statement.{statement}
+use Rattle.table.proofs.parts.is_queued_right.Tie as tie
+
+same-count : {t n d : ℕ} {b a : Bool} → t ≡ n → d ≡ one b → b ≡ a → eqb t d ≡ eqb n (one a)
+same-count e f g = rw (e, f, g)
+
+pub is-queued-right-spec : {M : Type 1} → statement M
+is-queued-right-spec =
+    tie.close
+    (tie.spec
+    (λ c κs. search needs)
+    (λ c κs. search needs)
+    (λ c κs. search needs)
+    (λ c. search same-count))

@@ -1,0 +1,78 @@
+// Document 01's checks 5, 6 and 7 of a request.
+ghost use mathlib.Core.Path.{_≡_};
+ghost use Rattle.kit.specs.Range.{implies};
+ghost use Rattle.readings.specs.Readings.{inRange};
+ghost use Rattle.stamps.specs.Stamps.{wellFormed};
+ghost use Rattle.table.specs.Sound.{setsAllowed, baseStampsAllowed, valuesAllowed, requestAllowed};
+use vote::data::Request;
+
+// Check 5: the update set is not empty and lies inside the base set, which has no item above 23.
+pub fn are_sets_allowed(base: u32, update: u32) -> bool
+    ensures { λ r. ⌜ r ≡ setsAllowed base update ⌝ }
+{
+    if update == 0 {
+        return false;
+    }
+    if !sets::is_inside(update, base) {
+        return false;
+    }
+    sets::of_items(base)
+}
+
+// A stamp is well formed where its item is in the set.
+fn is_stamp_allowed(taken: bool, n: u8, stamp: u64) -> bool
+    ensures { λ r. ⌜ r ≡ implies taken (wellFormed n stamp) ⌝ }
+{
+    if taken {
+        return stamps::is_well_formed(n, stamp);
+    }
+    true
+}
+
+// Check 6: each base item's stamp is well formed.
+pub fn are_base_stamps_allowed(n: u8, base: u32, based: [u64; 24]) -> bool
+    ensures { λ r. ⌜ r ≡ baseStampsAllowed n base based ⌝ }
+{
+    for i in 0..24 {
+        if !is_stamp_allowed(sets::has(base, i), n, based[i]) {
+            return false;
+        }
+    }
+    true
+}
+
+fn is_value_allowed(taken: bool, value: i32) -> bool
+    ensures { λ r. ⌜ r ≡ implies taken (inRange value) ⌝ }
+{
+    if taken {
+        return readings::is_in_range(value);
+    }
+    true
+}
+
+// Check 7: each update item's value is in range.
+pub fn are_values_allowed(update: u32, values: [i32; 24]) -> bool
+    ensures { λ r. ⌜ r ≡ valuesAllowed update values ⌝ }
+{
+    for i in 0..24 {
+        if !is_value_allowed(sets::has(update, i), values[i]) {
+            return false;
+        }
+    }
+    true
+}
+
+// Whether a request passes checks 5, 6 and 7.
+pub fn is_request_allowed(n: u8, q: Request) -> bool
+    ensures { λ r. ⌜ r ≡ requestAllowed n q ⌝ }
+{
+    if !are_sets_allowed(q.base, q.update) {
+        return false;
+    }
+    let based = q.stamps;
+    if !are_base_stamps_allowed(n, q.base, based) {
+        return false;
+    }
+    let values = q.values;
+    are_values_allowed(q.update, values)
+}

@@ -1,0 +1,93 @@
+// The exact test of soundness, for every table, spoiled ones included.
+ghost use mathlib.Core.Path.{_≡_};
+ghost use lib.ListN.{getD};
+ghost use Rattle.kit.specs.Range.{all};
+ghost use Rattle.table.specs.Parts.{stampsOf, requestSound, siteSound, messageSound};
+ghost use Rattle.table.specs.Places.{noSite, noMessage};
+ghost use Rattle.table.specs.Sound.{soundTable};
+ghost use Rattle.vote.specs.Data.{requestAt};
+use crate::data::Message;
+use crate::data::Table;
+use crate::fresh::is_site_count;
+use crate::marks::Marks;
+use crate::marks::ballots_of;
+use crate::marks::lasts_of;
+use crate::marks::marks_of;
+use crate::parts::is_message_sound;
+use crate::parts::is_request_sound;
+use crate::parts::is_site_sound;
+use vote::data::Request;
+use vote::data::Site;
+
+// The stamp of each request place.
+fn stamps_of(rs: [Request; 16]) -> [u64; 16]
+    ensures { λ r. ⌜ r ≡ stampsOf rs ⌝ }
+{
+    let mut stamps = [0u64; 16];
+    for p in 0..16 {
+        stamps[p] = rs[p].stamp;
+    }
+    stamps
+}
+
+fn are_requests_sound(n: u8, lasts: [u32; 7], stamps: [u64; 16], rs: [Request; 16]) -> bool
+    ensures { λ r. ⌜ r ≡ all 16 (λ p. requestSound n lasts stamps (requestAt rs p) p) ⌝ }
+{
+    for p in 0..16 {
+        if !is_request_sound(n, lasts, stamps, rs[p], p) {
+            return false;
+        }
+    }
+    true
+}
+
+fn are_sites_sound(
+    n: u8,
+    lasts: [u32; 7],
+    marks: [Marks; 16],
+    stamps: [u64; 16],
+    sites: [Site; 7],
+) -> bool
+    ensures { λ r. ⌜ r ≡ all 7 (λ k. siteSound n lasts marks stamps k (getD sites k noSite)) ⌝ }
+{
+    for k in 0..7 {
+        if !is_site_sound(n, lasts, marks, stamps, k, sites[k]) {
+            return false;
+        }
+    }
+    true
+}
+
+fn are_messages_sound(n: u8, marks: [Marks; 16], stamps: [u64; 16], messages: [Message; 64]) -> bool
+    ensures { λ r. ⌜ r ≡ all 64 (λ j. messageSound n marks stamps (getD messages j noMessage)) ⌝ }
+{
+    for j in 0..64 {
+        if !is_message_sound(n, marks, stamps, messages[j]) {
+            return false;
+        }
+    }
+    true
+}
+
+// Whether a table is sound.
+pub fn sound(t: Table) -> bool
+    ensures { λ r. ⌜ r ≡ soundTable t ⌝ }
+{
+    let n = t.count;
+    if !is_site_count(n) {
+        return false;
+    }
+    let rs = t.requests;
+    let sites = t.sites;
+    let lasts = lasts_of(sites);
+    let stamps = stamps_of(rs);
+    if !are_requests_sound(n, lasts, stamps, rs) {
+        return false;
+    }
+    let marks = marks_of(ballots_of(sites));
+    if !are_sites_sound(n, lasts, marks, stamps, sites) {
+        return false;
+    }
+    let messages = t.messages;
+    are_messages_sound(n, marks, stamps, messages)
+}

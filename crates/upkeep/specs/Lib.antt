@@ -1,0 +1,2 @@
+-- What a table is inside a step.
+pub mod But

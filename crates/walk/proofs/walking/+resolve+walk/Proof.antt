@@ -1,0 +1,271 @@
+-- `walk::walking::resolve` and `walk` meet their contracts. A walk of w deferred requests measures 2 * w, a verdict before it one more; the
+-- loop's invariant is that the answer from here is the answer from the start; each way through a turn is a law of its own.
+use borrow.Author.Needs.{needs}
+use Prim.Native.Nat.{ℕ, _+_, _*_, _-_, _<_, _≤_}
+use mathlib.Core.Logic.{⊎-elim}
+use mathlib.Core.Path.{_≡_}
+use native.Mathlib.Omega.{arith}
+use Rattle.vote.specs.Data.{requestIn}
+use Rattle.walk.specs.Walking.{walked, answerOf}
+use Rattle.walk.proofs.Turns.{Turn, request-in, request-out, turn-is, keep-turn, vote-turn, rule-turn, end-turn, voted-fewer, ruled-fewer, count-turn, few-answers, one-accepted, one-rejected}
+use borrow.Fn.Kinds.{In}
+use borrow.Fn.PlainCycle.{Measures, is, falls, and}
+use Rattle.walk.proofs.walking.resolve.Reads as resolve
+use Rattle.walk.proofs.walking.resolve.Kinds as resolve-kinds
+use Rattle.walk.proofs.walking.+resolve+walk.Lts-resolve as resolve-lts
+use Rattle.walk.proofs.walking.walk.Reads as walk
+use Rattle.walk.proofs.walking.walk.Kinds as walk-kinds
+use Rattle.walk.proofs.walking.+resolve+walk.Lts-walk as walk-lts
+use Rattle.kit.proofs.index.Reads as index-reads
+use Rattle.vote.proofs.consider.consider.Reads as consider-reads
+use Rattle.vote.proofs.consider.is_deferral.Reads as is-deferral-reads
+use Rattle.vote.proofs.consider.is_open.Reads as is-open-reads
+use Rattle.vote.proofs.consider.mark_of.Reads as mark-of-reads
+use Rattle.vote.proofs.queue.queued_at.Reads as queued-at-reads
+use Rattle.vote.proofs.requests.blank_request.Reads as blank-request-reads
+use Rattle.vote.proofs.requests.heads_of.Reads as heads-of-reads
+use Rattle.vote.proofs.verdicts.rule.Reads as rule-reads
+use Rattle.vote.proofs.verdicts.verdict_due.Reads as verdict-due-reads
+use Rattle.vote.proofs.voting.vote_from_queue.Reads as vote-from-queue-reads
+use Rattle.walk.proofs.walking.one_if_accepted.Reads as one-if-accepted-reads
+use Rattle.walk.proofs.walking.one_if_rejected.Reads as one-if-rejected-reads
+use Rattle.walk.proofs.walking.+resolve+walk.{statement}
+use Rattle.walk.proofs.walking.+resolve+walk.Tie.{close}
+
+abbrev μ-resolve : Measures 0 resolve-kinds.ps ℕ
+μ-resolve κs a = 2 * a .1 .0 .waiting + 1
+
+abbrev μ-walk : Measures 0 walk-kinds.ps ℕ
+μ-walk κs a = 2 * a .1 .0 .waiting
+
+abbrev resolve-at : ℕ → In 0 resolve-kinds.ps
+resolve-at t = and 0 resolve-kinds.ps (is 0 resolve-kinds.ps μ-resolve t) resolve.Pre
+
+abbrev resolve-below : ℕ → In 0 resolve-kinds.ps
+resolve-below t = and 0 resolve-kinds.ps (falls 0 resolve-kinds.ps _<_ μ-resolve t) resolve.Pre
+
+abbrev walk-at : ℕ → In 0 walk-kinds.ps
+walk-at t = and 0 walk-kinds.ps (is 0 walk-kinds.ps μ-walk t) walk.Pre
+
+abbrev walk-below : ℕ → In 0 walk-kinds.ps
+walk-below t = and 0 walk-kinds.ps (falls 0 walk-kinds.ps _<_ μ-walk t) walk.Pre
+
+-- what each is told of what it calls
+abbrev resolve-sees : ℕ → resolve-lts.Claims
+resolve-sees t = (
+  blank-request-reads.Asked,
+  blank-request-reads.Learnt,
+  rule-reads.Asked,
+  rule-reads.Learnt,
+  walk-below t,
+  walk.Post,
+  one-if-accepted-reads.Asked,
+  one-if-accepted-reads.Learnt,
+  one-if-rejected-reads.Asked,
+  one-if-rejected-reads.Learnt,
+)
+
+abbrev walk-sees : ℕ → walk-lts.Claims
+walk-sees t = (
+  heads-of-reads.Asked,
+  heads-of-reads.Learnt,
+  index-reads.Asked,
+  index-reads.Learnt,
+  queued-at-reads.Asked,
+  queued-at-reads.Learnt,
+  blank-request-reads.Asked,
+  blank-request-reads.Learnt,
+  consider-reads.Asked,
+  consider-reads.Learnt,
+  is-deferral-reads.Asked,
+  is-deferral-reads.Learnt,
+  mark-of-reads.Asked,
+  mark-of-reads.Learnt,
+  vote-from-queue-reads.Asked,
+  vote-from-queue-reads.Learnt,
+  verdict-due-reads.Asked,
+  verdict-due-reads.Learnt,
+  is-open-reads.Asked,
+  is-open-reads.Learnt,
+  resolve-below t,
+  resolve.Post,
+)
+
+-- its queue is counted by a byte
+small : (t : ℕ) (c : resolve-lts.Start (resolve-sees t) (resolve-at t) resolve.Post) → c .args .s .waiting < 256
+small t c = omega arith
+
+-- the request that is ruled
+ruled-request : (t : ℕ) (c : resolve-lts.Joined1 (resolve-sees t) (resolve-at t) resolve.Post) → c .if1 .q ≡ requestIn (c .before .before .args .t1) (c .before .before .args .p)
+ruled-request t c = ⊎-elim (λ w. search request-in) (λ w. search request-out) (c .if1 .came)
+
+resolve-blank-request-requires : (t : ℕ) → resolve-lts.Need-blank-request-requires (resolve-sees t) (resolve-at t) resolve.Post
+resolve-blank-request-requires t c κs = search needs
+
+resolve-mul-q : (t : ℕ) → resolve-lts.Need-mul-q (resolve-sees t) (resolve-at t) resolve.Post
+resolve-mul-q t c = search needs
+
+resolve-array-copy-out-q : (t : ℕ) → resolve-lts.Need-array-copy-out-q (resolve-sees t) (resolve-at t) resolve.Post
+resolve-array-copy-out-q t c = search needs
+
+resolve-rule-requires : (t : ℕ) → resolve-lts.Need-rule-requires (resolve-sees t) (resolve-at t) resolve.Post
+resolve-rule-requires t c κs = search needs
+
+resolve-walk-requires : (t : ℕ) → resolve-lts.Need-walk-requires (resolve-sees t) (resolve-at t) resolve.Post
+resolve-walk-requires t c κs = (omega (arith, ruled-fewer), tt)
+
+resolve-one-if-accepted-requires : (t : ℕ) → resolve-lts.Need-one-if-accepted-requires (resolve-sees t) (resolve-at t) resolve.Post
+resolve-one-if-accepted-requires t c κs = search needs
+
+resolve-add-t20 : (t : ℕ) → resolve-lts.Need-add-t20 (resolve-sees t) (resolve-at t) resolve.Post
+resolve-add-t20 t c = omega (arith, ruled-fewer, few-answers, small t (c .before .before .before .before .before .before .before), one-accepted (c .before .before .before .before .before .before .before .args .v))
+
+resolve-one-if-rejected-requires : (t : ℕ) → resolve-lts.Need-one-if-rejected-requires (resolve-sees t) (resolve-at t) resolve.Post
+resolve-one-if-rejected-requires t c κs = search needs
+
+resolve-add-t22 : (t : ℕ) → resolve-lts.Need-add-t22 (resolve-sees t) (resolve-at t) resolve.Post
+resolve-add-t22 t c = omega (arith, ruled-fewer, few-answers, small t (c .before .before .before .before .before .before .before .before .before), one-rejected (c .before .before .before .before .before .before .before .before .before .args .v))
+
+resolve-returns : (t : ℕ) → resolve-lts.Need-returns (resolve-sees t) (resolve-at t) resolve.Post
+resolve-returns t c = let h = ruled-request t (c .before .before .before .before .before .before .before) in search count-turn
+
+abbrev walk-Inv-loop : walk-lts.InvT-loop
+walk-Inv-loop s₀ n me rs heads i₀ s i = (answerOf (walked me n rs s i) ≡ answerOf (walked me n rs s₀ 0)) × (s .waiting ≤ s₀ .waiting)
+
+abbrev walk-μ-loop : walk-lts.MeasureT-loop
+walk-μ-loop s₀ n me rs heads i₀ s i = s .waiting - i
+
+-- the request that is considered
+walk-request
+    : (t : ℕ) (c : walk-lts.Joined2 (walk-sees t) (walk-at t) walk.Post walk-Inv-loop walk-μ-loop)
+    → c .if2 .q ≡ requestIn (c .before .before .before .before .before .before .before .before .args .t1) (c .before .before .queued-at .result)
+walk-request t c = ⊎-elim (λ w. search request-in) (λ w. search request-out) (c .if2 .came)
+
+-- where the loop stood, and the call
+abbrev at-loop : (t : ℕ) → walk-lts.After-consider (walk-sees t) (walk-at t) walk.Post walk-Inv-loop walk-μ-loop → walk-lts.At-loop (walk-sees t) (walk-at t) walk.Post walk-Inv-loop walk-μ-loop
+at-loop t c = c .before .before .before .before .before .before .before .before .before
+
+abbrev at-start : (t : ℕ) → walk-lts.After-consider (walk-sees t) (walk-at t) walk.Post walk-Inv-loop walk-μ-loop → walk-lts.Start (walk-sees t) (walk-at t) walk.Post walk-Inv-loop walk-μ-loop
+at-start t c = at-loop t c .before .before
+
+-- what came of it
+walk-turn
+    : (t : ℕ) (c : walk-lts.After-consider (walk-sees t) (walk-at t) walk.Post walk-Inv-loop walk-μ-loop)
+    → Turn (at-start t c .args .me) (at-start t c .args .n) (at-start t c .args .t1) (at-loop t c .loop .s) (at-loop t c .loop .i)
+    (c .before .before .before .before .before .queued-at .result) (c .consider .result)
+    (answerOf (walked (at-start t c .args .me) (at-start t c .args .n) (at-start t c .args .t1) (at-start t c .args .s) 0))
+walk-turn t c = let h = walk-request t (c .before .before .before) in search turn-is
+
+-- there is one
+walk-some
+    : (t : ℕ) (c : walk-lts.Then1 (walk-sees t) (walk-at t) walk.Post walk-Inv-loop walk-μ-loop)
+    → (0 < c .before .before .loop .s .waiting) × (2 * c .before .before .loop .s .waiting ≤ t)
+walk-some t c = (omega arith, omega arith)
+
+walk-heads-of-requires : (t : ℕ) → walk-lts.Need-heads-of-requires (walk-sees t) (walk-at t) walk.Post walk-Inv-loop walk-μ-loop
+walk-heads-of-requires t c κs = search needs
+
+walk-loop-holds : (t : ℕ) → walk-lts.Need-loop-holds (walk-sees t) (walk-at t) walk.Post walk-Inv-loop walk-μ-loop
+walk-loop-holds t c = search needs
+
+walk-index-requires : (t : ℕ) → walk-lts.Need-index-requires (walk-sees t) (walk-at t) walk.Post walk-Inv-loop walk-μ-loop
+walk-index-requires t c κs = search needs
+
+walk-queued-at-requires : (t : ℕ) → walk-lts.Need-queued-at-requires (walk-sees t) (walk-at t) walk.Post walk-Inv-loop walk-μ-loop
+walk-queued-at-requires t c κs = search needs
+
+walk-blank-request-requires : (t : ℕ) → walk-lts.Need-blank-request-requires (walk-sees t) (walk-at t) walk.Post walk-Inv-loop walk-μ-loop
+walk-blank-request-requires t c κs = search needs
+
+walk-cast-q : (t : ℕ) → walk-lts.Need-cast-q (walk-sees t) (walk-at t) walk.Post walk-Inv-loop walk-μ-loop
+walk-cast-q t c = search needs
+
+walk-mul-q : (t : ℕ) → walk-lts.Need-mul-q (walk-sees t) (walk-at t) walk.Post walk-Inv-loop walk-μ-loop
+walk-mul-q t c = search needs
+
+walk-array-copy-out-q : (t : ℕ) → walk-lts.Need-array-copy-out-q (walk-sees t) (walk-at t) walk.Post walk-Inv-loop walk-μ-loop
+walk-array-copy-out-q t c = search needs
+
+walk-consider-requires : (t : ℕ) → walk-lts.Need-consider-requires (walk-sees t) (walk-at t) walk.Post walk-Inv-loop walk-μ-loop
+walk-consider-requires t c κs = search needs
+
+walk-is-deferral-requires : (t : ℕ) → walk-lts.Need-is-deferral-requires (walk-sees t) (walk-at t) walk.Post walk-Inv-loop walk-μ-loop
+walk-is-deferral-requires t c κs = search needs
+
+walk-add-i : (t : ℕ) → walk-lts.Need-add-i (walk-sees t) (walk-at t) walk.Post walk-Inv-loop walk-μ-loop
+walk-add-i t c = search needs
+
+walk-loop-less : (t : ℕ) → walk-lts.Need-loop-less (walk-sees t) (walk-at t) walk.Post walk-Inv-loop walk-μ-loop
+walk-loop-less t c = search needs
+
+walk-loop-again : (t : ℕ) → walk-lts.Need-loop-again (walk-sees t) (walk-at t) walk.Post walk-Inv-loop walk-μ-loop
+walk-loop-again t c = let h = walk-turn t (c .before .before) in (search keep-turn, omega arith)
+
+walk-mark-of-requires : (t : ℕ) → walk-lts.Need-mark-of-requires (walk-sees t) (walk-at t) walk.Post walk-Inv-loop walk-μ-loop
+walk-mark-of-requires t c κs = search needs
+
+walk-vote-from-queue-requires : (t : ℕ) → walk-lts.Need-vote-from-queue-requires (walk-sees t) (walk-at t) walk.Post walk-Inv-loop walk-μ-loop
+walk-vote-from-queue-requires t c κs = search needs
+
+walk-verdict-due-requires : (t : ℕ) → walk-lts.Need-verdict-due-requires (walk-sees t) (walk-at t) walk.Post walk-Inv-loop walk-μ-loop
+walk-verdict-due-requires t c κs = search needs
+
+walk-is-open-requires : (t : ℕ) → walk-lts.Need-is-open-requires (walk-sees t) (walk-at t) walk.Post walk-Inv-loop walk-μ-loop
+walk-is-open-requires t c κs = search needs
+
+walk-resolve-requires : (t : ℕ) → walk-lts.Need-resolve-requires (walk-sees t) (walk-at t) walk.Post walk-Inv-loop walk-μ-loop
+walk-resolve-requires t c κs = (omega (arith, voted-fewer, walk-some t (c .before .before .before .before .before .before .before .before .before .before .before .before .before .before .before .before)), tt)
+
+walk-returns : (t : ℕ) → walk-lts.Need-returns (walk-sees t) (walk-at t) walk.Post walk-Inv-loop walk-μ-loop
+walk-returns t c = let h = walk-turn t (c .before .before .before .before .before .before .before .before .before .before) in search rule-turn
+
+walk-loop-less-2 : (t : ℕ) → walk-lts.Need-loop-less-2 (walk-sees t) (walk-at t) walk.Post walk-Inv-loop walk-μ-loop
+walk-loop-less-2 t c = omega (arith, voted-fewer)
+
+walk-loop-again-2 : (t : ℕ) → walk-lts.Need-loop-again-2 (walk-sees t) (walk-at t) walk.Post walk-Inv-loop walk-μ-loop
+walk-loop-again-2 t c = let h = walk-turn t (c .before .before .before .before .before .before .before .before .before) in (search vote-turn, omega (arith, voted-fewer, c .before .before .before .before .before .before .before .before .before .before .before .before .before .before .before .before .before .before .loop .inv .1))
+
+walk-returns-2 : (t : ℕ) → walk-lts.Need-returns-2 (walk-sees t) (walk-at t) walk.Post walk-Inv-loop walk-μ-loop
+walk-returns-2 t c = search end-turn
+
+pub +resolve+walk-spec : {M : Type 1} → statement M
++resolve+walk-spec = close μ-resolve μ-walk (λ t. resolve-lts.spec (resolve-sees t)
+    (resolve-at t)
+    resolve.Post
+    (resolve-blank-request-requires t)
+    (resolve-mul-q t)
+    (resolve-array-copy-out-q t)
+    (resolve-rule-requires t)
+    (resolve-walk-requires t)
+    (resolve-one-if-accepted-requires t)
+    (resolve-add-t20 t)
+    (resolve-one-if-rejected-requires t)
+    (resolve-add-t22 t)
+    (resolve-returns t))
+    λ t. walk-lts.spec (walk-sees t)
+    (walk-at t)
+    walk.Post
+    walk-Inv-loop
+    walk-μ-loop
+    (walk-heads-of-requires t)
+    (walk-loop-holds t)
+    (walk-index-requires t)
+    (walk-queued-at-requires t)
+    (walk-blank-request-requires t)
+    (walk-cast-q t)
+    (walk-mul-q t)
+    (walk-array-copy-out-q t)
+    (walk-consider-requires t)
+    (walk-is-deferral-requires t)
+    (walk-add-i t)
+    (walk-loop-less t)
+    (walk-loop-again t)
+    (walk-mark-of-requires t)
+    (walk-vote-from-queue-requires t)
+    (walk-verdict-due-requires t)
+    (walk-is-open-requires t)
+    (walk-resolve-requires t)
+    (walk-returns t)
+    (walk-loop-less-2 t)
+    (walk-loop-again-2 t)
+    (walk-returns-2 t)
