@@ -1,0 +1,5 @@
+-- Demand 3, proved.
+pub mod Histories
+pub mod Turns
+pub mod Steps
+pub mod Tonight

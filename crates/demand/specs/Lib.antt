@@ -1,0 +1,3 @@
+-- Demand 3 in the table's words.
+pub mod Nights
+pub mod Promises

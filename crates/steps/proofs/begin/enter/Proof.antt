@@ -1,0 +1,24 @@
+-- `steps::begin::enter` meets its contract.
+use Rattle.steps.proofs.Beginning.{stamp-fits, enter-is}
+use borrow.Author.Needs.{needs}
+use Rattle.steps.proofs.begin.enter.Statement.{statement}
+use Rattle.steps.proofs.begin.enter.Tie as tie
+
+pub enter-spec : {M : Type 1} → statement M
+enter-spec =
+    tie.close
+    (tie.spec
+    (λ c κs. search needs)
+    (λ c. search needs)
+    (λ c. search needs)
+    (λ c. search needs)
+    (λ c. search needs)
+    (λ c. search needs)
+    (λ c. search needs)
+    (λ c. search needs)
+    (λ c. search needs)
+    (λ c κs. search needs)
+    (λ c. search needs)
+    (λ c. search needs)
+    (λ c. search stamp-fits)
+    (λ c. search enter-is))

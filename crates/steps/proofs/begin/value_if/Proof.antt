@@ -1,0 +1,11 @@
+-- `steps::begin::value_if` meets its contract.
+use Rattle.steps.proofs.Beginning.{value-taken, value-left}
+use Rattle.steps.proofs.begin.value_if.Statement.{statement}
+use Rattle.steps.proofs.begin.value_if.Tie as tie
+
+pub value-if-spec : {M : Type 1} → statement M
+value-if-spec =
+    tie.close
+    (tie.spec
+    (λ c. search value-taken)
+    (λ c. search value-left))

@@ -1,0 +1,17 @@
+-- `steps::retire::forget` meets its contract.
+use Rattle.steps.proofs.Retiring.{forget-is}
+use borrow.Author.Needs.{needs}
+use Rattle.steps.proofs.retire.forget.Statement.{statement}
+use Rattle.steps.proofs.retire.forget.Tie as tie
+
+pub forget-spec : {M : Type 1} → statement M
+forget-spec =
+    tie.close
+    (tie.spec
+    (λ c. search needs)
+    (λ c. search needs)
+    (λ c. search needs)
+    (λ c κs. search needs)
+    (λ c. search needs)
+    (λ c κs. search needs)
+    (λ c. search forget-is))

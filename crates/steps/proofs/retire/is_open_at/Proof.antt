@@ -1,0 +1,16 @@
+-- `steps::retire::is_open_at` meets its contract.
+use Rattle.steps.proofs.Retiring.{open-beyond, open-within}
+use borrow.Author.Needs.{needs}
+use Rattle.steps.proofs.retire.is_open_at.Statement.{statement}
+use Rattle.steps.proofs.retire.is_open_at.Tie as tie
+
+pub is-open-at-spec : {M : Type 1} → statement M
+is-open-at-spec =
+    tie.close
+    (tie.spec
+    (λ c κs. search needs)
+    (λ c. search open-beyond)
+    (λ c. search needs)
+    (λ c. search needs)
+    (λ c κs. search needs)
+    (λ c. search open-within))
