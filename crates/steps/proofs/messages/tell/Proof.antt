@@ -24,9 +24,24 @@ from-index c = digit-low _ _ _ _ (c .index .ensures) (c .before .before .before 
 from-high : (c : tie.After-index) → c .index .result - 1 < 7
 from-high c = digit-high _ _ _ _ (c .index .ensures) (c .before .before .before .before .is-site .ensures) (c .before .before .before .if1 .left) (c .before .before .before .before .before .pre)
 
+-- the place where the request's place is known, and the function's entry
+abbrev placed : tie.Else7 → tie.After-place-with
+placed c = c .before .before .before .before .before .before .before
+
+abbrev start : tie.Else7 → tie.Start
+start c = placed c .before .before .before .before .before .before .before .before .before .before
+
 -- a place is left to be found
-rest : (c : tie.Else7) → tellNumber (c .before .before .before .before .before .before .before .before .before .before .before .before .before .before .before .before .before .args .t1) (c .before .before .before .before .before .before .before .before .before .before .before .before .before .before .before .before .before .args .a) ≡ cond (eqb (freeMessage (c .before .before .before .before .before .before .before .before .before .before .before .before .before .before .before .before .before .args .t1)) 64) 12 0
+rest : (c : tie.Else7) → tellNumber (start c .args .t1) (start c .args .a) ≡ cond (eqb (freeMessage (start c .args .t1)) 64) 12 0
 rest c = search (tell-rest, place-some)
+
+done : tie.Need-returns-9
+done c =
+    let free = c .before .before .before .before .before in
+    let place = placed (free .before .before) in
+    tell-done _ _ (rest (free .before .before)) _ (free .free-message .ensures) (c .before .before .before .before .if8 .left) _
+    (place-some _ _ (place .before .before .if4 .left) _ (place .place-with .ensures)) _ (place .before .before .before .before .before .index .ensures)
+    (c .before .message-from .ensures) (c .done .ensures)
 
 pub tell-spec : {M : Type 1} → statement M
 tell-spec =
@@ -39,9 +54,9 @@ tell-spec =
     (λ c κs. search needs)
     (λ c. search tell-to)
     (λ c κs. search needs)
-    (λ c. from-index c)
+    from-index
     (λ c. search needs)
-    (λ c. from-high c)
+    from-high
     (λ c κs. search needs)
     (λ c. search tell-down)
     (λ c κs. search needs)
@@ -69,4 +84,4 @@ tell-spec =
     (λ c. search needs)
     (λ c. search needs)
     (λ c κs. search needs)
-    (λ c. tell-done _ _ (rest (c .before .before .before .before .before .before .before)) _ (c .before .before .before .before .before .free-message .ensures) (c .before .before .before .before .if8 .left) _ (place-some _ _ (c .before .before .before .before .before .before .before .before .before .before .before .before .before .before .before .before .if4 .left) _ (c .before .before .before .before .before .before .before .before .before .before .before .before .before .before .place-with .ensures)) _ (c .before .before .before .before .before .before .before .before .before .before .before .before .before .before .before .before .before .before .before .index .ensures) (c .before .message-from .ensures) (c .done .ensures)))
+    done)

@@ -5,6 +5,14 @@ use borrow.Author.Needs.{needs}
 use Rattle.steps.proofs.retire.retire.Statement.{statement}
 use Rattle.steps.proofs.retire.retire.Tie as tie
 
+done : tie.Need-returns-5
+done c =
+    let asked = c .before .before .before .before in
+    let place = asked .before .before .before .before .before .before in
+    retire-done _ _ _ (place-some _ _ (place .before .before .if1 .left) _ (place .place-with .ensures)) (asked .before .before .before .before .before .if2 .left)
+    (asked .before .before .before .is-open-somewhere .ensures) (asked .before .before .if3 .left) (asked .is-named .ensures) (c .before .before .before .if4 .left)
+    (c .before .before .forget-everywhere .ensures) (c .before .blank-request .ensures) (c .done .ensures)
+
 pub retire-spec : {M : Type 1} → statement M
 retire-spec =
     tie.close
@@ -25,4 +33,4 @@ retire-spec =
     (λ c. search needs)
     (λ c. search needs)
     (λ c κs. search needs)
-    (λ c. retire-done _ _ _ (place-some _ _ (c .before .before .before .before .before .before .before .before .before .before .before .before .if1 .left) _ (c .before .before .before .before .before .before .before .before .before .before .place-with .ensures)) (c .before .before .before .before .before .before .before .before .before .if2 .left) (c .before .before .before .before .before .before .before .is-open-somewhere .ensures) (c .before .before .before .before .before .before .if3 .left) (c .before .before .before .before .is-named .ensures) (c .before .before .before .if4 .left) (c .before .before .forget-everywhere .ensures) (c .before .blank-request .ensures) (c .done .ensures)))
+    done)

@@ -11,5 +11,5 @@ step-spec =
     (λ c κs. search needs)
     (λ c κs. search needs)
     (λ c. search step-unsound)
-    (λ c κs. sound-count _ _ (c .before .sound .ensures) (c .if1 .left))
+    (λ c κs. search sound-count)
     (λ c. search step-sound))

@@ -1,0 +1,2 @@
+-- A site's copy in a sound table is always writable.
+pub mod Filed
