@@ -100,6 +100,9 @@ module _ (t : Table) (a : Step) {z : Stepped} (h : tellNumber t a ≡ cond (eqb 
 no-site : (t : Table) (k : ℕ) → length (t .sites) ≡ 7 → 6 < k → siteAt t k .up ≡ false
 no-site t k l h = ap (λ (s : Site). s .up) (List·getD-eq-default (t .sites) noSite (omega arith))
 
+pub empty-is : (t : Table) (j : ℕ) {m : Message} → m ≡ blankMessage → withMessage j m t ≡ withMessage j blankMessage t
+empty-is t j e = rw e
+
 below-64 : {j : ℕ} → j ≤ 63 → j < 64
 below-64 l = omega arith
 
@@ -118,10 +121,10 @@ module _ (t : Table) (a : Step) (j : ℕ) (e : j ≡ a .place) where
     drop-unused u r = rw (← e, lt-ltb j 64 (below-64 l), u) r
 
     pub drop-done
-        : {z : Stepped} {m : Message} → not (messageAt t j .used) ≡ false → m ≡ blankMessage → z ≡ steppedAs (doneQuietly (pos 0) 0 (withMessage j m t))
+        : {z : Stepped} {u : Table} → not (messageAt t j .used) ≡ false → u ≡ withMessage j blankMessage t → z ≡ steppedAs (doneQuietly (pos 0) 0 u)
         → z ≡ unlessRefused (dropNumber t a) (dropped t a) t
     unfolding dropNumber noMessageAt dropped
-    drop-done u hm r = rw (← e, lt-ltb j 64 (below-64 l), u) (rw hm at r)
+    drop-done u hu r = rw (← e, lt-ltb j 64 (below-64 l), u) (rw hu at r)
 
     pub deliver-unused : {z : Stepped} → not (messageAt t j .used) ≡ true → z ≡ refusedAs 13 t → z ≡ unlessRefused (deliverNumber t a) (delivered t a) t
     unfolding deliverNumber noMessageAt

@@ -1,7 +1,9 @@
 // Steps 2, 3 and 4: tell, deliver and drop.
 ghost use mathlib.Core.Path.{_≡_};
-ghost use Prim.Native.Nat.{_≤_};
+ghost use Prim.Native.Nat.{_≤_, _<_};
 ghost use mathlib.Core.Bool.{not, _||_, cond};
+ghost use Rattle.table.specs.Fresh.{blankMessage};
+ghost use Rattle.table.specs.Places.{withMessage};
 ghost use Rattle.vote.specs.Data.{isOk, isOther, isOpen};
 ghost use Rattle.vote.specs.Voters.{votersOf, noRow};
 ghost use Rattle.steps.specs.Numbers.{tellNumber, deliverNumber, dropNumber};
@@ -152,7 +154,16 @@ pub(crate) fn deliver(mut t: Table, a: Step) -> Stepped
     }
 }
 
-pub(crate) fn drop(mut t: Table, a: Step) -> Stepped
+// The table with message place j empty.
+fn empty_place(mut t: Table, j: usize) -> Table
+    requires { ⌜ j < 64 ⌝ }
+    ensures { λ r. ⌜ r ≡ withMessage j blankMessage t ⌝ }
+{
+    t.messages[j] = blank_message();
+    t
+}
+
+pub(crate) fn drop(t: Table, a: Step) -> Stepped
     requires { ⌜ t .count ≤ 7 ⌝ }
     ensures { λ r. ⌜ r ≡ unlessRefused (dropNumber t a) (dropped t a) t ⌝ }
 {
@@ -163,6 +174,5 @@ pub(crate) fn drop(mut t: Table, a: Step) -> Stepped
     if !t.messages[j].used {
         return refuse(13, t);
     }
-    t.messages[j] = blank_message();
-    done(0, 0, t)
+    done(0, 0, empty_place(t, j))
 }

@@ -16,7 +16,5 @@ drop-spec =
     (λ c κs. search needs)
     (λ c. search drop-unused)
     (λ c κs. search needs)
-    (λ c. search needs)
-    (λ c. search needs)
     (λ c κs. search needs)
     (λ c. search drop-done))
