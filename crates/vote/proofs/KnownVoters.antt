@@ -12,28 +12,37 @@ use lib.Seq.{ext-getD, getD-set-same, getD-set-other, set-getD, set-out}
 use Rattle.kit.specs.Lists.{listed}
 use Rattle.kit.specs.Range.{number, implies}
 use Rattle.kit.proofs.Bools.{and-left, and-right, implied, implying, by-eq, by-lt}
-use Rattle.kit.proofs.Listings.{length-listed, listed-at}
+use Rattle.kit.proofs.Listings.{Filled, filled-put, length-listed, listed-at}
 use Rattle.kit.proofs.Ranges.{all-at, all-of, number-le, number-same, number-grows, number-none}
 use Rattle.vote.specs.Voters.{knows, votersOf, onlyVoter, joinUpTo, joinVoters, hasVoter, votersKnown, noKnown, putVoter, areAmong, clearUpTo, clearVoters}
 use Rattle.vote.proofs.Rows.{row-in, row-known, row-number, length-clearUpTo}
 
 -- ---- as the code asks and makes them; `at` is the place as an index
 
-pub unknown-place : (known : List Bool) {at p : ℕ} (u : ℕ) → at ≡ p → 15 < at → false ≡ knows known p u
+unknown-place : (known : List Bool) {at p : ℕ} (u : ℕ) → at ≡ p → 15 < at → false ≡ knows known p u
 unfolding knows
 unknown-place known {at} {p} u e h = rw (le-ltb p 16 (omega arith))
-
-pub unknown-voter : (known : List Bool) (p u : ℕ) → 6 < u → false ≡ knows known p u
-unfolding knows
-unknown-voter known p u h = rw (le-ltb u 7 (omega arith), and-false)
 
 -- inside the 16 places and seven voters
 known-is : (known : List Bool) (p u : ℕ) → p < 16 → u < 7 → getD known (7 * p + u) false ≡ knows known p u
 unfolding knows
 known-is known p u h l = rw (lt-ltb p 16 h, lt-ltb u 7 l)
 
-pub known-at : (known : List Bool) {at p : ℕ} (u : ℕ) → at ≡ p → at ≤ 15 → u ≤ 6 → getD known (7 * at + u) false ≡ knows known p u
+known-at : (known : List Bool) {at p : ℕ} (u : ℕ) → at ≡ p → at ≤ 15 → u ≤ 6 → getD known (7 * at + u) false ≡ knows known p u
 known-at known {at} {p} u e h l = rw e (known-is known p u (omega arith) (omega arith))
+
+-- of no place, nobody
+pub nobody-known : (known : List Bool) {at p : ℕ} → at ≡ p → 15 < at → replicate 7 false ≡ votersOf known p
+unfolding votersOf
+nobody-known known {at} {p} e h =
+    ext-getD false (replicate 7 false) (listed 7 (knows known p)) (sym (length-listed 7 (knows known p)))
+    (λ k l. getD-replicate 7 k false false l ∙ unknown-place known k e h ∙ sym (listed-at 7 k (knows known p) false l))
+
+-- one voter more of a row that is being read
+pub row-more
+    : (known : List Bool) {at p : ℕ} (u : ℕ) (row : List Bool) → at ≡ p → at ≤ 15 → u < 7 → Filled false 7 (knows known p) u row
+    → Filled false 7 (knows known p) (u + 1) (set row u (getD known (7 * at + u) false))
+row-more known {at} {p} u row e h l w = filled-put false 7 (knows known p) u row (getD known (7 * at + u) false) l (known-at known u e h (omega arith)) w
 
 pub only-in : {at u : ℕ} → at ≡ u → at < 7 → set (replicate 7 false) at true ≡ onlyVoter u
 unfolding onlyVoter

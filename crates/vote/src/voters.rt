@@ -2,29 +2,19 @@
 ghost use mathlib.Core.Path.{_≡_};
 ghost use mathlib.Core.Bool.{_||_};
 ghost use Rattle.kit.specs.Range.{implies};
-ghost use Rattle.vote.specs.Voters.{knows, votersOf, onlyVoter, joinVoters, clearVoters, noKnown, noRow, hasVoter, putVoter, noVoters, noneKnown, areAmong, votersListed, votersIn, votersKnown};
-
-// Whether voter u of place p is known.
-pub fn is_known(known: [bool; 112], p: u8, u: usize) -> bool
-    ensures { λ r. ⌜ r ≡ knows known p u ⌝ }
-{
-    let at = kit::index(p);
-    if 15 < at {
-        return false;
-    }
-    if 6 < u {
-        return false;
-    }
-    known[7 * at + u]
-}
+ghost use Rattle.vote.specs.Voters.{votersOf, onlyVoter, joinVoters, clearVoters, noKnown, noRow, hasVoter, putVoter, noVoters, noneKnown, areAmong, votersListed, votersIn, votersKnown};
 
 // The known voters of place p, site by site.
 pub fn voters_of(known: [bool; 112], p: u8) -> [bool; 7]
     ensures { λ r. ⌜ r ≡ votersOf known p ⌝ }
 {
     let mut voters = [false; 7];
+    let at = kit::index(p);
+    if 15 < at {
+        return voters;
+    }
     for u in 0..7 {
-        voters[u] = is_known(known, p, u);
+        voters[u] = known[7 * at + u];
     }
     voters
 }
