@@ -1,17 +1,17 @@
 -- The step by its code, and the test of soundness before it, over the values that the code has at hand.
-use Prim.Native.Nat.{_≤_}
-use mathlib.Core.Bool.{Bool, true, false, not}
-use mathlib.Core.Path.{_≡_, sym, _∙_}
+use Prim.Native.Nat.{ℕ, _≤_}
+use mathlib.Core.Bool.{Bool, true, false, not, cond}
+use mathlib.Core.Path.{_≡_, refl, sym, _∙_}
 use native.Mathlib.Omega.{arith}
 use borrow.Author.Tests.{eq-eqb, ne-eqb, leb-true, not-true, not-false}
-use lib.Dec.{leb}
-use Rattle.kit.proofs.Bools.{and-left, and-right}
+use lib.Dec.{eqb, leb}
+use Rattle.kit.proofs.Bools.{and-left, and-right, of-cond}
 use Rattle.record.specs.declared.Step.{Step}
 use Rattle.table.specs.Sound.{countRight, soundTable}
 use Rattle.table.specs.declared.data.Table.{Table}
-use Rattle.steps.specs.Answers.{refusedAs}
+use Rattle.steps.specs.Answers.{Done, refusedAs}
 use Rattle.steps.specs.Numbers.{beginNumber, tellNumber, deliverNumber, dropNumber, downNumber, upNumber, retireNumber, readNumber}
-use Rattle.steps.specs.Steps.{unlessRefused, begun, told, delivered, dropped, putUp, retired, readings, advanced, stepped}
+use Rattle.steps.specs.Steps.{unlessRefused, begun, entered, told, delivered, dropped, putUp, retired, readings, advanced, stepped}
 use Rattle.steps.specs.declared.answer.Stepped.{Stepped}
 
 module _ (t : Table) (a : Step) {z : Stepped} where
@@ -79,3 +79,24 @@ count-of t e = leb-true (t .count) 7 (and-right (leb 1 (t .count)) _ e)
 pub sound-count : (t : Table) (b : Bool) → b ≡ soundTable t → not b ≡ false → t .count ≤ 7
 unfolding soundTable
 sound-count t b h n = count-of t (and-left (countRight t) _ (sym h ∙ not-false b n))
+
+-- ---- what a step does not change
+
+-- the site count
+pub advanced-count : (t : Table) (a : Step) → advanced t a .table .count ≡ t .count
+unfolding advanced begun entered told delivered dropped putUp retired readings
+advanced-count t a =
+    of-cond Same (eqb (a .code) 1) (λ e. quiet (beginNumber t a) (begun t a) refl)
+    (λ e. of-cond Same (eqb (a .code) 2) (λ e. quiet (tellNumber t a) (told t a) refl)
+    (λ e. of-cond Same (eqb (a .code) 3) (λ e. quiet (deliverNumber t a) (delivered t a) refl)
+    (λ e. of-cond Same (eqb (a .code) 4) (λ e. quiet (dropNumber t a) (dropped t a) refl)
+    (λ e. of-cond Same (eqb (a .code) 5) (λ e. quiet (downNumber t a) (putUp false t a) refl)
+    (λ e. of-cond Same (eqb (a .code) 6) (λ e. quiet (upNumber t a) (putUp true t a) refl)
+    (λ e. of-cond Same (eqb (a .code) 7) (λ e. quiet (retireNumber t a) (retired t a) refl)
+    (λ e. of-cond Same (eqb (a .code) 8) (λ e. quiet (readNumber t a) (readings t a) refl) (λ e. refl))))))))
+  where
+    Same : Stepped → Type 0
+    Same r = r .table .count ≡ t .count
+
+    quiet : (number : ℕ) (d : Done) → d .table .count ≡ t .count → Same (unlessRefused number d t)
+    quiet number d h = of-cond Same (eqb number 0) (λ e. h) (λ e. refl)

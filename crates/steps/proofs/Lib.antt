@@ -9,3 +9,6 @@ mod Advancing
 -- The conditions of a step, and that each step keeps the table sound.
 pub mod Allowed
 pub mod Upkeep
+-- Runs over a buffer of records.
+pub mod Running
+pub mod Nights

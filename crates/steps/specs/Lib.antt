@@ -2,3 +2,4 @@
 pub mod Answers
 pub mod Numbers
 pub mod Steps
+pub mod Night

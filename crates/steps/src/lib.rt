@@ -4,5 +4,6 @@ mod begin;
 mod messages;
 mod places;
 mod retire;
+pub mod run;
 mod sites;
 pub mod step;

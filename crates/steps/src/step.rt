@@ -17,7 +17,7 @@ use table::data::Table;
 use table::sound::sound;
 
 // A step on a table that is sound: soundness is not tested again.
-fn advance(t: Table, a: Step) -> Stepped
+pub(crate) fn advance(t: Table, a: Step) -> Stepped
     requires { ⌜ t .count ≤ 7 ⌝ }
     ensures { λ r. ⌜ r ≡ advanced t a ⌝ }
 {

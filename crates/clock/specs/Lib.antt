@@ -1,0 +1,2 @@
+-- What the contracts of `clock` cite.
+pub mod Clock

@@ -1,0 +1,2 @@
+-- What the contracts of `pool` cite.
+pub mod Pool

@@ -1,0 +1,19 @@
+-- `steps::run::run` meets its contract: sound or not.
+use borrow.Author.Needs.{needs}
+use Rattle.steps.proofs.Advancing.{sound-count}
+use Rattle.steps.proofs.Running.{run-unsound, run-sound}
+use Rattle.steps.proofs.run.run.Statement.{statement}
+use Rattle.steps.proofs.run.run.Tie as tie
+
+returns : tie.Need-returns
+returns c =
+    let a = c .before .before .before .before .args in
+    run-unsound (a .t) (a .nth) (a .input .now) (a .output .now) (c .before .sound .ensures) (c .if1 .taken)
+
+returns-2 : tie.Need-returns-2
+returns-2 c =
+    let a = c .before .before .before .before .before .before .before .before .args in
+    run-sound (a .t) (a .nth) (a .input .now) (a .output .now) (c .before .before .before .before .before .sound .ensures) (c .before .before .before .before .if1 .left) (c .before .before .take-records .ensures)
+
+pub run-spec : {M : Type 1} → statement M
+run-spec = tie.close (tie.spec (λ c κs. search needs) returns (λ c κs. search sound-count) (λ c. search needs) returns-2)
