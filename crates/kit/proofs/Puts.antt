@@ -53,3 +53,19 @@ module _ {A : Type 0} where
   pub placed-out : (d : List A) (at : ℕ) (e : List A) → length d < at + length e → placed d at e ≡ d
   unfolding placed
   placed-out d at e h = rw (lt-leb (at + length e) (length d) h)
+
+  -- ---- pieces placed one behind the other
+
+  -- one piece more
+  pub placed-more : (d d₁ d₂ : List A) (at p : ℕ) (x y : List A) → d₁ ≡ put d at x → p ≡ at + length x → p + length y ≤ length d → d₂ ≡ placed d₁ p y → d₂ ≡ put d at (x ++ y)
+  placed-more d d₁ d₂ at p x y e q h f =
+      let l : length d₁ ≡ length d = ap length e ∙ length-put d at x (omega arith) in
+      f ∙ placed-in d₁ p y (omega arith) ∙ ap (λ (b : List A). put b p y) e ∙ put-put d at p x y q (omega arith)
+
+  -- three pieces
+  pub placed-three : (d d₁ d₂ d₃ : List A) (at p q : ℕ) (x y z : List A) → p ≡ at + length x → q ≡ p + length y → q + length z ≤ length d
+      → d₁ ≡ placed d at x → d₂ ≡ placed d₁ p y → d₃ ≡ placed d₂ q z → d₃ ≡ put d at (x ++ (y ++ z))
+  placed-three d d₁ d₂ d₃ at p q x y z hp hq room e₁ e₂ e₃ =
+      let one : d₁ ≡ put d at x = e₁ ∙ placed-in d at x (omega arith) in
+      let two : d₂ ≡ put d at (x ++ y) = placed-more d d₁ d₂ at p x y one hp (omega arith) e₂ in
+      placed-more d d₂ d₃ at q (x ++ y) z two (omega (arith, length-append x y)) room e₃ ∙ ap (put d at) (append-assoc x y z)

@@ -1,7 +1,7 @@
 -- A loop over the items of a set, lowest first: what is left of the set gives up its lowest item at each turn, and an array is filled at that
 -- item. The lowest item of a number that is not 0 is the count of the zeros below it, and `n & (n - 1)` is n without it; each over the width k.
 use mathlib.Core.Path.{_≡_, refl, sym, ap, _∙_, subst}
-use mathlib.Core.Bool.{Bool, true, false, not, _&&_, cond, and-true, and-false}
+use mathlib.Core.Bool.{true, false, not, _&&_, cond, and-true, and-false}
 use mathlib.Core.List.{List}
 use Prim.Native.Nat.{ℕ, zero, suc, _+_, _-_, _*_, _/_, _%_, _^_, _≤_, _<_}
 use native.Mathlib.Nat.{div-one, mod-lt, zero-lt-suc, mul-suc, mul-zero, add-zero, add-assoc, mul-div-cancel, mul-mod-left, mul-le-mul-left, le-trans, lt-of-le-of-lt}
@@ -16,7 +16,8 @@ use lib.ListN.{replicate, set}
 use lib.Pow.{shr-lt}
 use Rattle.kit.specs.Range.{number}
 use Rattle.kit.proofs.Bools.{clash, by-lt, by-eq, by-le, cond-yes, cond-no}
-use Rattle.kit.proofs.Listings.{Filled, filled-start, filled-put, filled-end}
+use Rattle.kit.proofs.Counts.{number-gap}
+use Rattle.kit.proofs.Listings.{Filled, filled-start, filled-put, filled-over, filled-end}
 use Rattle.kit.proofs.Ranges.{number-suc, number-le}
 use Rattle.sets.specs.Sets.{member}
 use Rattle.sets.proofs.Laws.{member-half, member-none, above}
@@ -85,12 +86,6 @@ without-lowest (suc k) n i ne h = go (n % 2) refl (mod-lt n (zero-lt-suc 1)) i (
 
 -- ---- where the entries stand
 
-number-gap : (p : ℕ → Bool) (a b : ℕ) → a ≤ b → ((i : ℕ) → a ≤ i → i < b → p i ≡ false) → number b p ≡ number a p
-number-gap p a zero h none = let e : a ≡ 0 = omega arith in rw e
-number-gap p a (suc b) h none =
-    by-le a b (λ l. rw (number-suc, none b l (omega arith), add-zero) (number-gap p a b l (λ i x y. none i x (omega arith))))
-    (λ l. let e : a ≡ suc b = omega arith in rw e)
-
 -- the first begins at the start
 pub entry-first : (start w s : ℕ) → entryAt start w s 0 ≡ start
 unfolding entryAt number
@@ -156,14 +151,6 @@ module _ {A : Type 0} (none : A) (f : ℕ → A) (start w s : ℕ) where
   walked-start h =
       record { from = 0; few = omega arith; small = h; left-is = left-all s; at-is = sym (entry-first start w s); filled = filled-start none 24 entry }
 
-  -- items that are outside the set are passed over
-  filled-over : (i j : ℕ) (r : List A) → i ≤ j → ((k : ℕ) → i ≤ k → k < j → none ≡ entry k) → Filled none 24 entry i r → Filled none 24 entry j r
-  filled-over i j r h e v = record {
-    long = v .long;
-    done = λ k l. by-lt k i (λ m. v .done k m) (λ m. v .left k m ∙ e k m l);
-    left = λ k l. v .left k (omega arith);
-  }
-
   module _ {left at : ℕ} {r : List A} (v : Walked left at r) where
     pub walked-room : at ≤ start + w * 24
     walked-room = rw (v .at-is) (entry-le start w s (v .from) (v .few))
@@ -190,7 +177,7 @@ module _ {A : Type 0} (none : A) (f : ℕ → A) (start w s : ℕ) where
             at-is = sym (entry-next start w s i m ∙ ap (λ (x : ℕ). x + w) here);
             filled =
                 filled-put none 24 entry i r a walked-item (e ∙ ap f (sym here) ∙ sym (cond-yes _ none m))
-                (filled-over (v .from) i r lo (λ k x y. sym (cond-no (f (entryAt start w s k)) none (over k x y))) (v .filled));
+                (filled-over none 24 entry (v .from) i r lo (λ k x y. sym (cond-no (f (entryAt start w s k)) none (over k x y))) (v .filled));
           }
 
       pub walked-less : bitAnd left (left - 1) < left
@@ -200,5 +187,5 @@ module _ {A : Type 0} (none : A) (f : ℕ → A) (start w s : ℕ) where
     unfolding byItem
     walked-end z =
         filled-end none 24 entry 24 r (omega arith)
-        (filled-over (v .from) 24 r (v .few)
+        (filled-over none 24 entry (v .from) 24 r (v .few)
         (λ k x y. sym (cond-no (f (entryAt start w s k)) none (sym (v .left-is .behind k x) ∙ ap (λ (n : ℕ). member n k) z ∙ member-none k))) (v .filled))

@@ -7,28 +7,30 @@ use lib.Dec.{eqb}
 use lib.ListN.{length}
 use Rattle.kit.proofs.Bools.{by-test, of-cond, and-right}
 use Rattle.ledger.proofs.Link.{goes-stay, goes-then}
-use Rattle.table.specs.Meaning.{ShapedSite}
 use Rattle.table.specs.Places.{placeAt, withSite}
 use Rattle.table.specs.Sound.{marksOk, marksOther, backed}
 use Rattle.table.specs.declared.data.Table.{Table}
+use Rattle.table.proofs.Backing.{Known, due-backed}
 use Rattle.vote.specs.Consider.{markOf, defers}
 use Rattle.vote.specs.Data.{isOk, isOther, isOpen, isUnmarked, requestIn, voteAt, withKnown}
+use Rattle.vote.specs.Shape.{ShapedSite}
 use Rattle.vote.specs.Verdicts.{verdictDue, ruled}
 use Rattle.vote.specs.Voters.{knows, hasVoter, joinVoters}
 use Rattle.vote.specs.Voting.{voted}
 use Rattle.vote.specs.declared.data.Site.{Site}
 use Rattle.vote.specs.declared.data.Verdict.{Verdict}
 use Rattle.vote.proofs.KnownVoters.{knows-joined-row, length-joinVoters}
-use Rattle.vote.proofs.Shapes.{voted-shape}
+use Rattle.vote.proofs.MarkKinds.{unmarked-no-vote, vote-kind}
+use Rattle.vote.proofs.Shapes.{voted-shape, shaped-as}
 use Rattle.walk.specs.Hearing.{settled, outcomeOf, takenUp, heard, received}
 use Rattle.walk.specs.Walking.{Out, resolved}
 use Rattle.walk.proofs.Inductions.{Keeps}
 use Rattle.tied.specs.Events.{eventsOf}
-use Rattle.tied.proofs.Rulings.{due-backed, rule-goes}
+use Rattle.tied.proofs.Rulings.{rule-goes}
 use Rattle.tied.proofs.Silences.{mute-deferred, mute-known, mute-goes, mute-then}
-use Rattle.tied.proofs.Standing.{Known, HeldOpen, unmarked-none}
-use Rattle.tied.proofs.Votes.{mark-stays, vote-goes, vote-kind, voted-casts, known-cast}
-use Rattle.tied.proofs.Walks.{Ready, Stands, Seat, Went, shaped-as, open-marked, walked-goes}
+use Rattle.tied.proofs.Standing.{HeldOpen}
+use Rattle.tied.proofs.Votes.{mark-stays, vote-goes, voted-casts, known-cast}
+use Rattle.tied.proofs.Walks.{Ready, Stands, Seat, Went, open-marked, walked-goes}
 
 -- ---- voters heard of are joined to those known
 
@@ -142,7 +144,7 @@ module _ (t : Table) (k : ℕ) (z : Seat t k) {P : Site → Type 0} (stands : (s
         (λ e. of-cond (Leads s) (isUnmarked (voteAt (s .votes) p .mark))
         (λ m. record {
           goes = mute-then t k (z .listed) (z .of-table) mute
-              (taken-goes j shape (record { open-at = open-at; none = unmarked-none (voteAt (s .votes) p .mark) m; known = known }) (x .votes m) .goes);
+              (taken-goes j shape (record { open-at = open-at; none = unmarked-no-vote (voteAt (s .votes) p .mark) m; known = known }) (x .votes m) .goes);
         })
         (λ m. record { goes = mute-goes t k (z .listed) (z .of-table) mute }))
         (λ e. record {

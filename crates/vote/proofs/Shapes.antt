@@ -8,6 +8,7 @@ use Rattle.kit.proofs.Changes.{length-changed}
 use Rattle.vote.specs.Consider.{markOf, defers}
 use Rattle.vote.specs.Data.{isOk, isDeferred, voteAt}
 use Rattle.vote.specs.Queue.{joinsQueue, leavesQueue, placeInQueue}
+use Rattle.vote.specs.Shape.{ShapedSite}
 use Rattle.vote.specs.Verdicts.{newStamp, newValue, writtenUpTo, writtenSite, released, withVerdict, noted, decided, ruled}
 use Rattle.vote.specs.Voters.{onlyVoter}
 use Rattle.vote.specs.Voting.{withMark, marked, countsItself, voted, deferred, keptOutcome, votedFromQueue}
@@ -42,6 +43,17 @@ shape-then a b = record {
   votes = b .votes ∙ a .votes;
   oks = b .oks ∙ a .oks;
   others = b .others ∙ a .others;
+}
+
+-- so where the lists of s have their lengths, those of t have
+pub shaped-as : {s t : Site} → SameShape s t → ShapedSite s → ShapedSite t
+shaped-as a b = record {
+  stamps = a .stamps ∙ b .stamps;
+  values = a .values ∙ b .values;
+  queue = a .queue ∙ b .queue;
+  votes = a .votes ∙ b .votes;
+  oks = a .oks ∙ b .oks;
+  others = a .others ∙ b .others;
 }
 
 module _ (s : Site) where
