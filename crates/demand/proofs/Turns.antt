@@ -21,13 +21,14 @@ use Rattle.vote.specs.declared.data.Site.{Site}
 use Rattle.vote.specs.declared.data.Verdict.{Verdict}
 use Rattle.walk.specs.Hearing.{outcomeOf, takenUp, received}
 use Rattle.walk.specs.Walking.{Out, queued, outcomeAt, votedAt, dueAt}
+use Rattle.walk.proofs.HearingInductions.{joinedOn}
 use Rattle.walk.proofs.Inductions.{Turn, Keeps}
 use Rattle.upkeep.proofs.Lifting.{At, Fine, FineBut, fine-but, fine-now, site-in}
 use Rattle.upkeep.proofs.Ruling.{settled-fine, ruled-fine, due-backed-at}
 use Rattle.upkeep.proofs.Voting.{vote-of, voted-from-fine, voted-from-marked, queued-below, queued-used, voted-fine, joined-fine}
 use Rattle.tied.specs.Events.{eventsOf}
 use Rattle.tied.specs.Views.{viewOf}
-use Rattle.tied.proofs.Hearings.{Upheld, joinedAt, taken-goes, received-goes}
+use Rattle.tied.proofs.Hearings.{Upheld, taken-goes, received-goes}
 use Rattle.tied.proofs.Soundly.{seat-of, stands-of, known-of, ready-of}
 use Rattle.tied.proofs.Walks.{Seat, Stands, Went, went-goes}
 
@@ -87,7 +88,7 @@ module _ (t : Table) (k : ℕ) (g : ShapedTable t) (b : Sound t) (hk : k < t .co
       put-back : (P : Table → Type 0) → P t → P (withSite k (siteAt t k) t)
       put-back P h = subst P (sym (site-back t k)) h
 
-      joined : FineBut t k p (joinedAt (siteAt t k) p oks others)
+      joined : FineBut t k p (joinedOn (siteAt t k) p oks others)
       joined =
           joined-fine t k at-site (siteAt t k) p oks others hp used (fine-but t k at-site p now)
           (put-back (λ x. (u : ℕ) → u < 7 → hasVoter oks u ≡ true → marksOk x p u ≡ true) mo)
@@ -95,8 +96,8 @@ module _ (t : Table) (k : ℕ) (g : ShapedTable t) (b : Sound t) (hk : k < t .co
 
       upheld : Upheld t k seat stands keeps p oks others (siteAt t k)
       upheld = record {
-        learns = λ o. ruled-fine t k at-site (joinedAt (siteAt t k) p oks others) p _ hp used joined o (due-backed-at t k at-site p hp joined);
-        votes = λ u d o. vote-upheld (joinedAt (siteAt t k) p oks others) joined u d o;
+        learns = λ o. ruled-fine t k at-site (joinedOn (siteAt t k) p oks others) p _ hp used joined o (due-backed-at t k at-site p hp joined);
+        votes = λ u d o. vote-upheld (joinedOn (siteAt t k) p oks others) joined u d o;
       }
 
       pub received-went

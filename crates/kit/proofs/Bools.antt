@@ -2,8 +2,9 @@
 use mathlib.Core.Path.{_≡_, refl, sym, _∙_}
 use mathlib.Core.Bool.{Bool, true, false, not, _&&_, _||_, cond, false≢true}
 use Prim.Native.Nat.{ℕ, _≤_, _<_}
+use native.Mathlib.Omega.{arith}
 use lib.Dec.{eqb, ltb, leb}
-use borrow.Author.Tests.{eqb-true, eqb-false, ltb-true, ltb-false, leb-true, leb-false}
+use borrow.Author.Tests.{eqb-true, eqb-false, ltb-true, ltb-false, leb-true, leb-false, le-leb}
 use Rattle.kit.specs.Range.{implies}
 
 -- ---- what a test says
@@ -44,11 +45,24 @@ pub implying : (a : Bool) {b : Bool} → (a ≡ true → b ≡ true) → implies
 implying true h = h refl
 implying false h = refl
 
+-- `implies` as a test that `&&` leaves as it is
+pub implied-and : (a b : Bool) → implies a b ≡ true → (a && b) ≡ a
+implied-and true b e = e
+implied-and false b e = refl
+
+pub and-implied : (a b : Bool) → (a && b) ≡ a → implies a b ≡ true
+and-implied true b e = e
+and-implied false b e = refl
+
 -- two tests that say the same of each other are the same
 pub same-test : (a b : Bool) → (a ≡ true → b ≡ true) → (b ≡ true → a ≡ true) → a ≡ b
 same-test true b f g = sym (f refl)
 same-test false true f g = g refl
 same-test false false f g = refl
+
+-- a number up to a is up to a larger b
+pub up-to : (x a b : ℕ) → a ≤ b → leb x a ≡ true → leb x b ≡ true
+up-to x a b h e = let l : x ≤ a = leb-true x a e in le-leb x b (omega arith)
 
 -- ---- by cases on a test, with its equation
 

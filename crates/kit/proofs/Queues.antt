@@ -1,8 +1,8 @@
 -- A list with one place out, `without d l i`: the loop that moves the later ones up, and what stands where.
 use mathlib.Core.Path.{_≡_, refl, ap, sym, _∙_}
-use mathlib.Core.Bool.{Bool, true, false, cond}
+use mathlib.Core.Bool.{cond}
 use mathlib.Core.List.{List, [], _∷_, _++_}
-use Prim.Native.Nat.{ℕ, zero, suc, _+_, _-_, _≤_, _<_}
+use Prim.Native.Nat.{ℕ, zero, suc, _-_, _≤_, _<_}
 use native.Mathlib.Omega.{arith}
 use borrow.Author.Tests.{lt-ltb, le-ltb}
 use lib.Dec.{ltb}
@@ -60,6 +60,13 @@ module _ {A : Type 0} (d : A) where
   without-last (a ∷ []) zero h = refl
   without-last (a ∷ b ∷ l) zero h = absurd (let z : ⊥ = omega arith in z)
   without-last (a ∷ l) (suc i) h = ap (λ (m : List A). a ∷ m) (without-last l i (omega arith))
+
+  -- a place behind the end is no place
+  pub without-none : (l : List A) (i : ℕ) → length l ≤ i → l ≡ without d l i
+  unfolding without
+  without-none [] i h = refl
+  without-none (a ∷ l) zero h = absurd (let z : ⊥ = omega arith in z)
+  without-none (a ∷ l) (suc i) h = ap (λ (m : List A). a ∷ m) (without-none l i (omega arith))
 
   -- ---- what stands where
 

@@ -4,11 +4,11 @@ use mathlib.Core.Bool.{true}
 use mathlib.Core.Logic.{inl}
 use mathlib.Core.Path.{_≡_, refl, sym, ap, _∙_}
 use native.Mathlib.Omega.{arith}
-use borrow.Author.Tests.{eq-eqb, ne-eqb, le-leb, leb-true}
+use borrow.Author.Tests.{eq-eqb, ne-eqb}
 use lib.Dec.{leb}
 use lib.IntN.{ℤ}
 use lib.ListN.{length}
-use Rattle.kit.proofs.Bools.{by-eq}
+use Rattle.kit.proofs.Bools.{by-eq, up-to}
 use Rattle.ledger.specs.Ledger.{Reading, Request as LedgerRequest}
 use Rattle.ledger.specs.View.{Word, votes-ok, votes-against, accepts, rejects, copyAfter, Quiet, Can, Says}
 use Rattle.stamps.specs.Stamps.{timeOf, digitOf}
@@ -33,10 +33,6 @@ pub record Mute (s s′ : Site) : Type 0 where
   pub says : (l : Word) (q : ℕ) → saysOf l (voteAt (s′ .votes) q) ≡ saysOf l (voteAt (s .votes) q)
   pub copy : (i : ℕ) → readingAt s′ i ≡ readingAt s i
   pub last : s .last ≤ s′ .last
-
--- a number up to a is up to a larger b
-pub up-to : (x a b : ℕ) → a ≤ b → leb x a ≡ true → leb x b ≡ true
-up-to x a b h e = let l : x ≤ a = leb-true x a e in le-leb x b (omega arith)
 
 -- ---- copies: at the site itself, whatever its number, and at the others
 

@@ -11,7 +11,7 @@ use lib.IntN.{pos}
 use lib.ListN.{length, getD, getD-replicate}
 use lib.Seq.{getD-set-same, getD-set-other}
 use Rattle.kit.specs.Lists.{listed, changed}
-use Rattle.kit.proofs.Bools.{clash, and-left, and-right, by-eq, by-lt}
+use Rattle.kit.proofs.Bools.{clash, and-left, and-right, by-eq, by-lt, up-to}
 use Rattle.kit.proofs.Changes.{changed-at}
 use Rattle.kit.proofs.Listings.{listed-at, replicate-at}
 use Rattle.ledger.specs.Ledger.{begin, Proper, blank}
@@ -36,7 +36,6 @@ use Rattle.vote.specs.declared.data.Site.{Site}
 use Rattle.vote.proofs.After.{CopiesOf}
 use Rattle.vote.proofs.MarkKinds.{unmarked-no-vote, open-is}
 use Rattle.tied.specs.Views.{requestOf, saysOf, readingAt, viewOf}
-use Rattle.tied.proofs.Sites.{up-to}
 use Rattle.tied.proofs.Votes.{judged-by, reading-same}
 use Rattle.tied.proofs.Words.{has-below, has-member, has-of, items-in, sets-items}
 

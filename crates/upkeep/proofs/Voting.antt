@@ -24,11 +24,11 @@ use Rattle.vote.specs.declared.data.Site.{Site}
 use Rattle.vote.specs.declared.data.Vote.{Vote}
 use Rattle.vote.proofs.After.{voted-oks, voted-others, voted-from-queue, deferred-queue}
 use Rattle.vote.proofs.Fields.{Kept, stays, may-change, voted-keeps, voted-from-keeps, deferred-keeps, leaves-keeps}
-use Rattle.vote.proofs.KnownVoters.{knows-joined-row, length-joinVoters}
+use Rattle.vote.proofs.KnownVoters.{knows-joined-row}
 use Rattle.vote.proofs.MarkKinds.{NoVote, vote-kind, unmarked-no-vote, deferred-no-vote, unmarked-not-deferred}
 use Rattle.vote.proofs.Queues.{Waits}
 use Rattle.vote.proofs.Said.{Says, voted-says, voted-from-says, deferred-says}
-use Rattle.vote.proofs.Shapes.{SameShape, voted-shape, voted-from-shape, deferred-shape, shaped-as}
+use Rattle.vote.proofs.Shapes.{SameShape, voted-shape, voted-from-shape, deferred-shape, shaped-as, joined-shape}
 use Rattle.upkeep.specs.But.{HoldingBut, SoundBut}
 use Rattle.upkeep.proofs.Carried.{Grown, SiteRight, backed-grown, right-carried}
 use Rattle.upkeep.proofs.Lifting.{At, Fine, FineBut, Changed, site-in, here, held-at, right-at, nothing-at, fine-but, later-changed, grown-changed, lifted}
@@ -272,14 +272,7 @@ module _ (t : Table) (k : ℕ) (a : At t k) where
       → ((u : ℕ) → u < 7 → hasVoter oks u ≡ true → marksOk (T s) p u ≡ true) → ((u : ℕ) → u < 7 → hasVoter others u ≡ true → marksOther (T s) p u ≡ true)
       → FineBut t k p (withKnown (joinVoters (s .oks) p oks) (joinVoters (s .others) p others) s)
   joined-fine s p oks others hp used f mo mx = record {
-    shaped = record {
-      stamps = f .shaped .stamps;
-      values = f .shaped .values;
-      queue = f .shaped .queue;
-      votes = f .shaped .votes;
-      oks = length-joinVoters (s .oks) p oks ∙ f .shaped .oks;
-      others = length-joinVoters (s .others) p others ∙ f .shaped .others;
-    };
+    shaped = shaped-as (joined-shape s p oks others) (f .shaped);
     sound = lifted t k a p s more changed hp used (f .sound)
         (right-carried refl (later-changed t k a p s more changed) (right-of (queued-same (queue-right (f .shaped) right) (record { queue = refl; waiting = refl }) (λ x h. refl)) (copies-right right))) held;
   }

@@ -1,7 +1,7 @@
 -- A site's queue of deferred requests: what the code makes of it, and what stands where afterwards.
 use mathlib.Core.Path.{_≡_, refl, sym, ap, _∙_}
-use mathlib.Core.List.{List, [], _∷_}
-use Prim.Native.Nat.{ℕ, zero, suc, _+_, _-_, _≤_, _<_}
+use mathlib.Core.List.{List}
+use Prim.Native.Nat.{ℕ, suc, _+_, _-_, _≤_, _<_}
 use native.Mathlib.Omega.{arith}
 use borrow.Author.Tests.{lt-ltb, le-ltb, eq-eqb, ne-eqb, eqb-true}
 use lib.Dec.{eqb}
@@ -10,7 +10,7 @@ use lib.Seq.{getD-set-same, getD-set-other}
 use Rattle.kit.specs.Lists.{without}
 use Rattle.kit.specs.Range.{any, first}
 use Rattle.kit.proofs.Bools.{by-test, by-eq, by-lt}
-use Rattle.kit.proofs.Queues.{skip, skip-after, skip-in, skip-once, skip-back, without-at, length-without}
+use Rattle.kit.proofs.Queues.{skip, skip-after, skip-in, skip-once, skip-back, without-at, length-without, without-none}
 use Rattle.kit.proofs.Ranges.{any-hit, none-of, first-le, first-hit, first-none}
 use Rattle.vote.specs.Data.{withQueue}
 use Rattle.vote.specs.Queue.{queuedAt, joinsQueue, leavesQueue, placeInQueue}
@@ -36,13 +36,6 @@ leaves-empty s i e = rw (eq-eqb (s .waiting) 0 e)
 pub leaves-some : (s : Site) (i : ℕ) {l : List ℕ} → (s .waiting ≡ 0 → ⊥) → l ≡ without 0 (s .queue) i → withQueue l (s .waiting - 1) s ≡ leavesQueue s i
 unfolding leavesQueue
 leaves-some s i ne e = rw (ne-eqb (s .waiting) 0 ne, e)
-
--- a place behind the end is no place
-pub without-none : (l : List ℕ) (i : ℕ) → length l ≤ i → l ≡ without 0 l i
-unfolding without
-without-none [] i h = refl
-without-none (a ∷ l) zero h = absurd (let z : ⊥ = omega arith in z)
-without-none (a ∷ l) (suc i) h = ap (λ (m : List ℕ). a ∷ m) (without-none l i (omega arith))
 
 -- ---- one more at the end
 
@@ -91,7 +84,7 @@ module _ (s : Site) (i : ℕ) where
   length-left =
       by-eq (s .waiting) 0 (λ e. ap (λ (t : Site). length (t .queue)) (sym (leaves-empty s i e)))
       (λ ne. rw (queue-left (omega (arith, ne)))
-      (by-lt i (length (s .queue)) (λ h. length-without 0 (s .queue) i h) (λ h. ap length (sym (without-none (s .queue) i h)))))
+      (by-lt i (length (s .queue)) (λ h. length-without 0 (s .queue) i h) (λ h. ap length (sym (without-none 0 (s .queue) i h)))))
 
 -- ---- where a request stands
 

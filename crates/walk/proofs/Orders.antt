@@ -21,10 +21,9 @@ use Rattle.vote.specs.declared.data.Vote.{Vote}
 use Rattle.vote.proofs.After.{QueueOf, deferred-queue, voted-from-queue, released-queue, ruled-queue-deferred, ruled-queue-other, queue-then}
 use Rattle.vote.proofs.Fields.{voted-keeps}
 use Rattle.vote.proofs.MarkKinds.{deferred-is, unmarked-is, after-not-deferred}
-use Rattle.vote.proofs.KnownVoters.{length-joinVoters}
 use Rattle.vote.proofs.Queues.{place-hit, waits-found}
 use Rattle.vote.proofs.Said.{Says, deferred-says, voted-says, voted-from-says, ruled-says}
-use Rattle.vote.proofs.Shapes.{SameShape, deferred-shape, voted-shape, voted-from-shape, ruled-shape, shaped-as}
+use Rattle.vote.proofs.Shapes.{SameShape, deferred-shape, voted-shape, voted-from-shape, ruled-shape, shaped-as, joined-shape}
 use Rattle.walk.specs.Hearing.{outcomeOf, settled, takenUp, received}
 use Rattle.walk.specs.Order.{markAt, verdictAt, DeferredOpen, InOrder, isVote}
 use Rattle.walk.specs.Walking.{Out, walked, resolved, queued}
@@ -127,14 +126,7 @@ module _ {s : Site} (o : InOrder s) (p : ℕ) (h : p < 16) where
   -- voters are joined to those known
   pub in-order-joined : (oks others : List Bool) → InOrder (joinedOn s p oks others)
   in-order-joined oks others = record {
-    shaped = record {
-      stamps = o .shaped .stamps;
-      values = o .shaped .values;
-      queue = o .shaped .queue;
-      votes = o .shaped .votes;
-      oks = length-joinVoters (s .oks) p oks ∙ o .shaped .oks;
-      others = length-joinVoters (s .others) p others ∙ o .shaped .others;
-    };
+    shaped = shaped-as (joined-shape s p oks others) (o .shaped);
     queue = orderly-kept (record { queue = refl; waiting = refl }) refl (o .queue);
     end = record { blank = o .end .blank };
     deferred = record { held = o .deferred .held };
