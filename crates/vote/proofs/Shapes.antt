@@ -34,9 +34,6 @@ pub record SameShape (s t : Site) : Type 0 where
   pub oks : length (t .oks) ≡ length (s .oks)
   pub others : length (t .others) ≡ length (s .others)
 
-shape-same : (s : Site) → SameShape s s
-shape-same s = record { stamps = refl; values = refl; queue = refl; votes = refl; oks = refl; others = refl }
-
 pub shape-then : {s t u : Site} → SameShape s t → SameShape t u → SameShape s u
 shape-then a b = record {
   stamps = b .stamps ∙ a .stamps;
