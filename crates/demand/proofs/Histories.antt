@@ -6,8 +6,9 @@ use mathlib.Core.Logic.{_⊎_, inl, inr, ⊎-elim}
 use Prim.Native.Nat.{ℕ}
 use native.Mathlib.Omega.{arith}
 use lib.IntN.{ℤ}
-use Rattle.ledger.specs.Ledger.{_among_, begin, ok, against, accept, reject, Request as LedgerRequest, Event as LedgerEvent, History as LedgerHistory}
-use Rattle.ledger.proofs.Members.{here, further, in-none, in-either, skip}
+use Rattle.kit.specs.Lists.{_among_}
+use Rattle.kit.proofs.Members.{here, further, in-none, in-either, not-front}
+use Rattle.ledger.specs.Ledger.{begin, ok, against, accept, reject, Request as LedgerRequest, Event as LedgerEvent, History as LedgerHistory}
 use Rattle.tied.specs.Events.{voteEvent, ruleEvent, eventOf, eventsOf}
 use Rattle.tied.specs.Views.{requestOf}
 use Rattle.vote.specs.Data.{requestAt}
@@ -50,15 +51,15 @@ all-ledger k rs (s ∷ l) =
 -- ---- acceptances and rejections, there and back
 
 accept-event : (e : Event) (s : ℕ) (q : LedgerRequest ℤ) → accept s q among ledgerEvent e → (r : Request) × (e ≡ ruled s r verdict.Accepted) × (requestOf r ≡ q)
-accept-event (began r) s q m = in-none (skip (λ p. cc) m)
+accept-event (began r) s q m = in-none (not-front (λ p. cc) m)
 accept-event (voted k r mark.None) s q m = in-none m
 accept-event (voted k r mark.Deferred) s q m = in-none m
-accept-event (voted k r mark.Ok) s q m = in-none (skip (λ p. cc) m)
-accept-event (voted k r mark.Dr) s q m = in-none (skip (λ p. cc) m)
-accept-event (voted k r mark.Rej) s q m = in-none (skip (λ p. cc) m)
+accept-event (voted k r mark.Ok) s q m = in-none (not-front (λ p. cc) m)
+accept-event (voted k r mark.Dr) s q m = in-none (not-front (λ p. cc) m)
+accept-event (voted k r mark.Rej) s q m = in-none (not-front (λ p. cc) m)
 accept-event (ruled k r verdict.Open) s q m = in-none m
 accept-event (ruled k r verdict.Accepted) s q m = in-either m (λ p. let e : k ≡ s = cc in let f : requestOf r ≡ q = cc in (r, ap (λ (j : ℕ). ruled j r verdict.Accepted) e, f)) (λ x. in-none x)
-accept-event (ruled k r verdict.Rejected) s q m = in-none (skip (λ p. cc) m)
+accept-event (ruled k r verdict.Rejected) s q m = in-none (not-front (λ p. cc) m)
 
 -- what the ledger accepted, the table accepted
 pub accept-from : (h : History) (s : ℕ) (q : LedgerRequest ℤ) → accept s q among ledgerOf h → (r : Request) × (ruled s r verdict.Accepted among h) × (requestOf r ≡ q)

@@ -25,6 +25,8 @@ use Rattle.table.specs.Meaning.{ShapedTable, Sound}
 use Rattle.table.specs.Places.{siteAt, messageAt, placeAt, withSite}
 use Rattle.table.specs.Sound.{soundTable}
 use Rattle.table.specs.declared.data.Table.{Table}
+use Rattle.table.proofs.Nothing.{Nothing, nothing-means}
+use Rattle.table.proofs.Places.{site-back, site-same}
 use Rattle.vote.specs.Data.{isOpen, isUnmarked, noVote, noRequest, voteAt, withLast, withUp}
 use Rattle.vote.specs.declared.data.Request.{Request}
 use Rattle.vote.specs.declared.data.Site.{Site}
@@ -39,8 +41,6 @@ use Rattle.walk.specs.Hearing.{takenUp}
 use Rattle.tied.specs.Events.{eventsOf}
 use Rattle.tied.specs.Views.{requestOf, viewOf}
 use Rattle.tied.proofs.Silences.{mute-up, mute-goes, message-goes}
-use Rattle.tied.proofs.Sites.{site-back, site-here}
-use Rattle.tied.proofs.Soundly.{SaysNothing, nothing-said}
 use Rattle.tied.proofs.Tables.{Forgets, proper-of, enteredAt, enters-of, begin-goes, retires-of, retire-goes}
 use Rattle.demand.specs.Nights.{began, History, allSaid, inBegin, inDeliver, happened}
 use Rattle.demand.proofs.Histories.{ledgerOf, ledger-append, all-ledger}
@@ -168,10 +168,10 @@ module _ (t : Table) (a : Step) (w : Well t) where
     used-now z = let n = times in let o = facts .from-one in let y : stamp ≡ 0 = ap (λ (r : Request). r .stamp) (sym place-now) ∙ z in omega arith
 
     site-now : siteAt E k ≡ withLast time (siteAt t k)
-    site-now = site-here t k (rw (w .shaped .sites) seven) (withLast time (siteAt t k))
+    site-now = site-same t k (withLast time (siteAt t k)) (rw (w .shaped .sites) seven)
 
-    unheard : SaysNothing (siteAt t k) p
-    unheard = nothing-said (siteAt t k) p (w .sound .place p (room .0) .free-held (room .1) k seven)
+    unheard : Nothing (siteAt t k) p
+    unheard = nothing-means (siteAt t k) p (w .sound .place p (room .0) .free-held (room .1) k seven)
 
     considers : Goes (t .count) (viewOf E) (viewOf (withSite k (takenUp k (t .count) (E .requests) (siteAt E k) p .site) E)) (eventsOf k (E .requests) (takenUp k (t .count) (E .requests) (siteAt E k) p .log))
     considers =

@@ -9,12 +9,13 @@ use borrow.Author.Tests.{le-leb, eqb-true, lt-ltb}
 use lib.Dec.{eqb, leb, ltb}
 use lib.IntN.{ℤ, pos}
 use lib.ListN.{length, getD, List·getD-eq-default}
+use Rattle.kit.specs.Lists.{_among_}
 use Rattle.kit.proofs.Bools.{of-cond, by-test, by-eq, by-lt, both-true, and-left, and-right}
-use Rattle.ledger.specs.Ledger.{_among_, Reading, accept, Request as LedgerRequest}
+use Rattle.kit.proofs.Members.{in-none, not-front}
+use Rattle.ledger.specs.Ledger.{Reading, accept, Request as LedgerRequest}
 use Rattle.ledger.specs.Promise.{Newest as LedgerNewest, unchanged, changed-by}
 use Rattle.ledger.specs.View.{Goes, Tied}
 use Rattle.ledger.proofs.Link.{tied-goes}
-use Rattle.ledger.proofs.Members.{in-none, in-either, skip}
 use Rattle.ledger.proofs.Night.{promised}
 use Rattle.record.specs.declared.Step.{Step}
 use Rattle.sets.specs.Sets.{member, ofItems}
@@ -108,7 +109,7 @@ happened-items t a w s r d =
     (λ z m. ⊎-elim
     (λ x. let y = said-of (a .site - 1) (entered t a .requests) (begun t a .log) s r d x in
     rw (y .1) (all-items (begun t a .table) (begun-well t a w (eqb-true (beginNumber t a) 0 z) .shaped) (begun-well t a w (eqb-true (beginNumber t a) 0 z) .sound) (y .0)))
-    (λ x. in-none (skip (λ p. cc) x))
+    (λ x. in-none (not-front (λ p. cc) x))
     (List·Memᴰ·append-cases (allSaid (a .site - 1) (entered t a .requests) (begun t a .log)) m))
     (λ z m. in-none m))
     (λ e. of-cond Items (eqb (a .code) 3)

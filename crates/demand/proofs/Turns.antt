@@ -10,6 +10,7 @@ use Rattle.table.specs.Meaning.{ShapedTable, Sound}
 use Rattle.table.specs.Places.{siteAt, messageAt, placeAt, verdictAt, markAt, withSite}
 use Rattle.table.specs.Sound.{marksOk, marksOther, backed}
 use Rattle.table.specs.declared.data.Table.{Table}
+use Rattle.table.proofs.Places.{site-back}
 use Rattle.vote.specs.Consider.{markOf, defers}
 use Rattle.vote.specs.Data.{isOpen, isUnmarked, requestIn, voteAt}
 use Rattle.vote.specs.Verdicts.{verdictDue, ruled}
@@ -20,14 +21,14 @@ use Rattle.vote.specs.declared.data.Site.{Site}
 use Rattle.vote.specs.declared.data.Verdict.{Verdict}
 use Rattle.walk.specs.Hearing.{outcomeOf, takenUp, received}
 use Rattle.walk.specs.Walking.{Out, queued, outcomeAt, votedAt, dueAt}
+use Rattle.walk.proofs.HearingInductions.{joinedOn}
 use Rattle.walk.proofs.Inductions.{Turn, Keeps}
 use Rattle.upkeep.proofs.Lifting.{At, Fine, FineBut, fine-but, fine-now, site-in}
-use Rattle.upkeep.proofs.Places.{site-back}
-use Rattle.upkeep.proofs.Ruling.{settled-fine, ruled-fine, due-backed}
+use Rattle.upkeep.proofs.Ruling.{settled-fine, ruled-fine, due-backed-at}
 use Rattle.upkeep.proofs.Voting.{vote-of, voted-from-fine, voted-from-marked, queued-below, queued-used, voted-fine, joined-fine}
 use Rattle.tied.specs.Events.{eventsOf}
 use Rattle.tied.specs.Views.{viewOf}
-use Rattle.tied.proofs.Hearings.{Upheld, joinedAt, taken-goes, received-goes}
+use Rattle.tied.proofs.Hearings.{Upheld, taken-goes, received-goes}
 use Rattle.tied.proofs.Soundly.{seat-of, stands-of, known-of, ready-of}
 use Rattle.tied.proofs.Walks.{Seat, Stands, Went, went-goes}
 
@@ -56,7 +57,7 @@ module _ (t : Table) (k : ℕ) (g : ShapedTable t) (b : Sound t) (hk : k < t .co
         let b = voted-from-fine t k at-site s i f (x .inside) (markOf (outcomeAt k (t .count) (t .requests) s i)) v in
         let hp = queued-below t k at-site s i f (x .inside) in
         ruled-fine t k at-site (votedAt k (t .count) (t .requests) s i) (queued s i) (dueAt k (t .count) (t .requests) s i) hp (queued-used t k at-site s i f (x .inside)) b (x .due)
-        (due-backed t k at-site (queued s i) hp b);
+        (due-backed-at t k at-site (queued s i) hp b);
   }
 
   module _ (p : ℕ) (hp : p < 16) (used : placeAt t p .stamp ≡ 0 → ⊥) where
@@ -73,7 +74,7 @@ module _ (t : Table) (k : ℕ) (g : ShapedTable t) (b : Sound t) (hk : k < t .co
     vote-upheld s f u e o =
         let m = markOf (outcomeOf k (t .count) (t .requests) s p) in
         let v = voted-fine t k at-site s p m hp used f (vote-of (outcomeOf k (t .count) (t .requests) s p) e) u in
-        ruled-fine t k at-site (voted k s p m) p (verdictDue (t .count) (voted k s p m .oks) (voted k s p m .others) p) hp used v o (due-backed t k at-site p hp v)
+        ruled-fine t k at-site (voted k s p m) p (verdictDue (t .count) (voted k s p m .oks) (voted k s p m .others) p) hp used v o (due-backed-at t k at-site p hp v)
 
     pub taken-went : isOpen (verdictAt t k p) ≡ true → isUnmarked (markAt t k p) ≡ true
         → Goes (t .count) (viewOf t) (viewOf (withSite k (takenUp k (t .count) (t .requests) (siteAt t k) p .site) t)) (eventsOf k (t .requests) (takenUp k (t .count) (t .requests) (siteAt t k) p .log))
@@ -87,7 +88,7 @@ module _ (t : Table) (k : ℕ) (g : ShapedTable t) (b : Sound t) (hk : k < t .co
       put-back : (P : Table → Type 0) → P t → P (withSite k (siteAt t k) t)
       put-back P h = subst P (sym (site-back t k)) h
 
-      joined : FineBut t k p (joinedAt (siteAt t k) p oks others)
+      joined : FineBut t k p (joinedOn (siteAt t k) p oks others)
       joined =
           joined-fine t k at-site (siteAt t k) p oks others hp used (fine-but t k at-site p now)
           (put-back (λ x. (u : ℕ) → u < 7 → hasVoter oks u ≡ true → marksOk x p u ≡ true) mo)
@@ -95,8 +96,8 @@ module _ (t : Table) (k : ℕ) (g : ShapedTable t) (b : Sound t) (hk : k < t .co
 
       upheld : Upheld t k seat stands keeps p oks others (siteAt t k)
       upheld = record {
-        learns = λ o. ruled-fine t k at-site (joinedAt (siteAt t k) p oks others) p _ hp used joined o (due-backed t k at-site p hp joined);
-        votes = λ u d o. vote-upheld (joinedAt (siteAt t k) p oks others) joined u d o;
+        learns = λ o. ruled-fine t k at-site (joinedOn (siteAt t k) p oks others) p _ hp used joined o (due-backed-at t k at-site p hp joined);
+        votes = λ u d o. vote-upheld (joinedOn (siteAt t k) p oks others) joined u d o;
       }
 
       pub received-went

@@ -4,7 +4,7 @@ use mathlib.Core.Bool.{true}
 use mathlib.Core.Path.{_≡_}
 use lib.IntN.{ℤ, pos}
 use lib.ListN.{getD}
-use Rattle.ledger.specs.Ledger.{_among_}
+use Rattle.kit.specs.Lists.{_among_}
 use Rattle.sets.specs.Sets.{member}
 use Rattle.table.specs.Places.{siteAt}
 use Rattle.table.specs.declared.data.Table.{Table}

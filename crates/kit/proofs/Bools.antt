@@ -2,8 +2,9 @@
 use mathlib.Core.Path.{_≡_, refl, sym, _∙_}
 use mathlib.Core.Bool.{Bool, true, false, not, _&&_, _||_, cond, false≢true}
 use Prim.Native.Nat.{ℕ, _≤_, _<_}
+use native.Mathlib.Omega.{arith}
 use lib.Dec.{eqb, ltb, leb}
-use borrow.Author.Tests.{eqb-true, eqb-false, ltb-true, ltb-false, leb-true, leb-false}
+use borrow.Author.Tests.{eqb-true, eqb-false, ltb-true, ltb-false, leb-true, leb-false, le-leb}
 use Rattle.kit.specs.Range.{implies}
 
 -- ---- what a test says
@@ -44,11 +45,24 @@ pub implying : (a : Bool) {b : Bool} → (a ≡ true → b ≡ true) → implies
 implying true h = h refl
 implying false h = refl
 
+-- `implies` as a test that `&&` leaves as it is
+pub implied-and : (a b : Bool) → implies a b ≡ true → (a && b) ≡ a
+implied-and true b e = e
+implied-and false b e = refl
+
+pub and-implied : (a b : Bool) → (a && b) ≡ a → implies a b ≡ true
+and-implied true b e = e
+and-implied false b e = refl
+
 -- two tests that say the same of each other are the same
 pub same-test : (a b : Bool) → (a ≡ true → b ≡ true) → (b ≡ true → a ≡ true) → a ≡ b
 same-test true b f g = sym (f refl)
 same-test false true f g = g refl
 same-test false false f g = refl
+
+-- a number up to a is up to a larger b
+pub up-to : (x a b : ℕ) → a ≤ b → leb x a ≡ true → leb x b ≡ true
+up-to x a b h e = let l : x ≤ a = leb-true x a e in le-leb x b (omega arith)
 
 -- ---- by cases on a test, with its equation
 
@@ -123,6 +137,22 @@ module _ {f a : Bool} (e : f ≡ a) where
 
   pub cond-else : {A : Type 0} {x z : A} (y : A) → f ≡ false → x ≡ z → x ≡ cond a y z
   cond-else y t h = rw (← e, t) h
+
+-- ---- a test that is made of other tests: what each of them means goes into what it means
+
+-- r asks t first, which means a
+pub and-means : {r t a : Bool} (b : Bool) → r ≡ (t && b) → t ≡ a → r ≡ (a && b)
+and-means b e f = rw (e, f)
+
+-- r asks t and then u, which mean a and b
+pub implies-means : {r t u a b : Bool} (d : Bool) → r ≡ implies (t && u) d → t ≡ a → u ≡ b → r ≡ implies (a && b) d
+implies-means d e f g = rw (e, f, g)
+
+-- r compares x, which is a
+pub eqb-means : {r : Bool} {x a : ℕ} (b : ℕ) → r ≡ eqb x b → x ≡ a → r ≡ eqb a b
+eqb-means b e f = rw (← f) e
+
+-- ---- the rulesets
 
 -- for a chain of early returns, `&&` and `||`
 pub ruleset tests = (and-then, and-stop, or-then, or-stop, cond-then, cond-else)

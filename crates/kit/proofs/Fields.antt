@@ -3,14 +3,16 @@ use mathlib.Core.Path.{_≡_, refl, sym, ap, ap₂, _∙_, subst}
 use mathlib.Core.Bool.{Bool, true, false, not, _&&_}
 use mathlib.Core.List.{List, [], _∷_, _++_}
 use Prim.Native.Nat.{ℕ, zero, suc, _+_, _-_, _*_, _/_, _%_, _^_, _≤_, _<_}
-use native.Mathlib.Nat.{not-suc-le-zero, le-of-suc-le-suc, pow-suc, pow-le-pow-right, lt-of-lt-of-le, mod-one, div-one, div-div-eq-div-mul, mul-comm, one-le-pow, sub-self, sub-zero, add-zero, le-antisymm}
+use native.Mathlib.Nat.{not-suc-le-zero, le-of-suc-le-suc, pow-suc, pow-le-pow-right, lt-of-lt-of-le, mod-one, div-one, div-div-eq-div-mul, mul-comm, one-le-pow, sub-self, sub-zero, add-zero, le-antisymm, mod-eq-of-lt}
 use native.Mathlib.Omega.{arith}
 use native.Mathlib.Numerals.{add-one}
 use borrow.Author.Tests.{le-leb, lt-leb, leb-true, leb-false, not-true, not-false}
 use lib.Arith.{mod-mul}
 use lib.Dec.{lit<, leb}
-use lib.ListN.{length, getD, take, drop, set}
-use lib.Seq.{getD-drop, paste, paste-suc, take-all}
+use lib.ListN.{length, getD, take, drop, set, length-append, length-drop}
+use lib.Seq.{getD-drop, paste, paste-suc, take-all, drop-at, drop-append-le}
+use mir.Syntax.{w8, w32}
+use mir.Val.{Fits}
 use Rattle.kit.specs.Bytes.{le, bytesOf, fieldAt}
 use Rattle.kit.specs.Lists.{put, placed}
 use Rattle.kit.proofs.Bools.{of-cond}
@@ -101,6 +103,48 @@ pub field-lt : (s : List ℕ) (at n : ℕ) → ((i : ℕ) → getD s i 0 < 256) 
 unfolding fieldAt
 field-lt s at n h =
     of-cond (λ (v : ℕ). v < 256 ^ n) (leb n 8 && leb (at + n) (length s)) (λ t. le-lt-at n at s h) (λ f. one-le-pow n 256 (lit< tt))
+
+-- and so fits a number of that width
+pub field-byte : {r : ℕ} (b : List ℕ) (at : ℕ) → ((i : ℕ) → Fits w8 (getD b i 0)) → r ≡ fieldAt b at 1 → Fits w8 r
+field-byte b at h e = record { fits = rw e (field-lt b at 1 (λ i. h i .fits)) }
+
+pub field-word : {r : ℕ} (b : List ℕ) (at : ℕ) → ((i : ℕ) → Fits w8 (getD b i 0)) → r ≡ fieldAt b at 4 → Fits w32 r
+field-word b at h e = record { fits = rw e (field-lt b at 4 (λ i. h i .fits)) }
+
+-- ---- a field and the bytes around it
+
+-- bytes behind the field do not count
+le-front : (n : ℕ) (l r : List ℕ) → n ≤ length l → le n (l ++ r) ≡ le n l
+unfolding le
+le-front zero l r h = refl
+le-front (suc n) [] r h = absurd (let z : ⊥ = omega arith in z)
+le-front (suc n) (b ∷ l) r h = ap (λ (x : ℕ). b + 256 * x) (le-front n l r (omega arith))
+
+pub field-front : (l r : List ℕ) (at n : ℕ) → n ≤ 8 → at + n ≤ length l → fieldAt (l ++ r) at n ≡ fieldAt l at n
+field-front l r at n h k =
+    field-in (l ++ r) at n h (rw length-append (omega arith))
+    ∙ ap (le n) (drop-append-le at l r (omega arith))
+    ∙ le-front n (drop at l) r (rw length-drop (omega arith))
+    ∙ sym (field-in l at n h k)
+
+-- a number of n bytes that was written behind p is read there
+pub field-read : (n v : ℕ) (p rest b : List ℕ) (at : ℕ) → n ≤ 8 → v < 256 ^ n → length p ≡ at → b ≡ p ++ (bytesOf n v ++ rest) → fieldAt b at n ≡ v
+field-read n v p rest b at few h l e =
+    let long : length b ≡ length p + (n + length rest) = ap length e ∙ simp (length-append, length-bytes) in
+    field-in b at n few (omega arith) ∙ ap (λ (x : List ℕ). le n (drop at x)) e ∙ ap (le n) (drop-at p (bytesOf n v ++ rest) at l)
+    ∙ read-written n v rest ∙ mod-eq-of-lt h
+
+-- a field that was read, written again: its bytes
+pub field-written : (n at : ℕ) (b : List ℕ) → ((i : ℕ) → getD b i 0 < 256) → n ≤ 8 → at + n ≤ length b → bytesOf n (fieldAt b at n) ≡ take n (drop at b)
+field-written n at b h few l =
+    ap (bytesOf n) (field-in b at n few l) ∙ written-read n (drop at b) (λ i. rw getD-drop (h (at + i))) (rw length-drop (omega arith))
+
+-- the front part of bytes is bytes
+pub take-small : (n : ℕ) (l : List ℕ) → ((i : ℕ) → getD l i 0 < 256) → (i : ℕ) → getD (take n l) i 0 < 256
+take-small zero l h i = lit< tt
+take-small (suc n) [] h i = lit< tt
+take-small (suc n) (a ∷ l) h zero = h 0
+take-small (suc n) (a ∷ l) h (suc i) = take-small n l (λ j. h (suc j)) i
 
 -- ---- the loop that reads: what is read are the bytes from k on
 

@@ -1,13 +1,23 @@
 -- Lists made from their elements: `listed n f`, and the loop that fills an array of n elements from the front, all of them d at first.
 use mathlib.Core.Path.{_≡_, refl, sym, ap, _∙_, subst}
-use mathlib.Core.List.{List, [], _∷_}
+use mathlib.Core.List.{List, [], _∷_, _++_, map}
 use Prim.Native.Nat.{ℕ, zero, suc, _+_, _≤_, _<_}
 use native.Mathlib.Nat.{not-suc-le-zero, le-of-suc-le-suc, lt-irrefl, lt-of-lt-of-le}
 use native.Mathlib.Omega.{arith}
 use borrow.Author.Count.{below-more}
-use lib.ListN.{length, getD, set, replicate, length-set, length-replicate}
+use lib.ListN.{length, getD, set, replicate, length-set, length-replicate, length-map}
 use lib.Seq.{getD-set-same, getD-set-other, ext-getD}
 use Rattle.kit.specs.Lists.{listed}
+use Rattle.kit.proofs.Bools.{by-lt}
+
+-- a list of images: as long as the list, and of `listed n g` the images of its elements
+pub length-mapped : (X Y : Type 0) (f : X → Y) (l : List X) (n : ℕ) → length (map f l) ≡ n → length l ≡ n
+length-mapped X Y f l n e = sym (length-map l f) ∙ e
+
+pub map-listed : {X Y : Type 0} (f : X → Y) (n : ℕ) (g : ℕ → X) → map f (listed n g) ≡ listed n (λ i. f (g i))
+unfolding listed
+map-listed f zero g = refl
+map-listed f (suc n) g = ap (λ (l : List _). f (g 0) ∷ l) (map-listed f n (λ i. g (suc i)))
 
 module _ {A : Type 0} where
   pub length-listed : (n : ℕ) (f : ℕ → A) → length (listed n f) ≡ n
@@ -32,6 +42,18 @@ module _ {A : Type 0} where
   listed-of n l d e =
       ext-getD d l (listed n (λ i. getD l i d)) (e ∙ sym (length-listed n _)) (λ i h. sym (listed-at n i (λ j. getD l j d) d (omega arith)))
 
+  -- one more at the end
+  pub listed-snoc : (n : ℕ) (f : ℕ → A) → listed (suc n) f ≡ listed n f ++ (f n ∷ [])
+  unfolding listed
+  listed-snoc zero f = refl
+  listed-snoc (suc n) f = ap (λ (l : List A). f 0 ∷ l) (listed-snoc n (λ i. f (suc i)))
+
+  -- what stands in a list of n times d
+  pub replicate-at : (n i : ℕ) (d : A) → getD (replicate n d) i d ≡ d
+  replicate-at zero i d = refl
+  replicate-at (suc n) zero d = refl
+  replicate-at (suc n) (suc i) d = replicate-at n i d
+
   module _ (d : A) (n : ℕ) (f : ℕ → A) where
     -- after i turns each element below i is what f says, and the others are d
     pub record Filled (i : ℕ) (r : List A) : Type 0 where
@@ -40,12 +62,7 @@ module _ {A : Type 0} where
       pub left : (k : ℕ) → i ≤ k → getD r k d ≡ d
 
     pub filled-start : Filled 0 (replicate n d)
-    filled-start = record { long = length-replicate n d; done = λ k h. absurd (not-suc-le-zero h); left = λ k h. all-d n k }
-      where
-        all-d : (m k : ℕ) → getD (replicate m d) k d ≡ d
-        all-d zero k = refl
-        all-d (suc m) zero = refl
-        all-d (suc m) (suc k) = all-d m k
+    filled-start = record { long = length-replicate n d; done = λ k h. absurd (not-suc-le-zero h); left = λ k h. replicate-at n k d }
 
     -- a turn that stores, and one that leaves the element as it was
     pub filled-put : (i : ℕ) (r : List A) (v : A) → i < n → v ≡ f i → Filled i r → Filled (i + 1) (set r i v)
@@ -62,6 +79,14 @@ module _ {A : Type 0} where
     filled-skip i r e w = record {
       long = w .long;
       done = below-more (λ (k : ℕ). getD r k d ≡ f k) i (w .done) (w .left i (omega arith) ∙ e);
+      left = λ k l. w .left k (omega arith);
+    }
+
+    -- turns that leave the elements from i to j as they were
+    pub filled-over : (i j : ℕ) (r : List A) → i ≤ j → ((k : ℕ) → i ≤ k → k < j → d ≡ f k) → Filled i r → Filled j r
+    filled-over i j r h e w = record {
+      long = w .long;
+      done = λ k l. by-lt k i (λ m. w .done k m) (λ m. w .left k m ∙ e k m l);
       left = λ k l. w .left k (omega arith);
     }
 

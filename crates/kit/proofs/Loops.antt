@@ -4,11 +4,12 @@ use mathlib.Core.Path.{_≡_, refl, sym, ap, _∙_}
 use mathlib.Core.Bool.{Bool, true, false, not, cond}
 use Prim.Native.Nat.{ℕ, _+_, _≤_, _<_, max}
 use borrow.Author.Tests.{not-true, not-false}
-use native.Mathlib.Nat.{add-zero}
 use native.Mathlib.Numerals.{add-one}
 use native.Mathlib.Omega.{arith}
+use mir.Syntax.{w32}
+use mir.Val.{Fits}
 use Rattle.kit.specs.Range.{any, all, one, number, first, largest}
-use Rattle.kit.proofs.Ranges.{any-suc, all-suc, number-suc, largest-suc, any-hit, all-miss, first-is, first-none}
+use Rattle.kit.proofs.Ranges.{any-suc, all-suc, number-suc, largest-suc, any-hit, all-miss, first-is, first-none, one-le}
 
 -- ---- `for i in 0..n { if test(i) { return true; } } false` computes `any n p`
 
@@ -75,20 +76,20 @@ pub counted-none : {n : ℕ} {p : ℕ → Bool} → Counted n p 0 0
 unfolding number
 counted-none = record { in-range = omega arith; few = omega arith; so-far = refl }
 
-one-few : (b : Bool) → one b ≤ 1
-one-few true = omega arith
-one-few false = omega arith
-
 pub counted-more : {n : ℕ} {p : ℕ → Bool} {i k d : ℕ} {r : Bool} → Counted n p i k → i < n → r ≡ p i → d ≡ one r → Counted n p (i + 1) (k + d)
 counted-more {n} {p} {i} {k} {d} {r} c l e f =
     record {
       in-range = omega arith;
-      few = rw f (omega (arith, c .few, one-few r));
+      few = rw f (omega (arith, c .few, one-le r));
       so-far = rw (add-one i, number-suc, ← e, ← f, c .so-far);
     }
 
 pub counted-over : {n : ℕ} {p : ℕ → Bool} {i k : ℕ} → Counted n p i k → n ≤ i → k ≡ number n p
 counted-over {n} {p} {i} {k} c l = let e : n ≡ i = omega (arith, c .in-range) in rw e (c .so-far)
+
+-- a turn's sum fits the count's type, where n does
+pub counted-fits : {n : ℕ} {p : ℕ → Bool} {i k d : ℕ} (r : Bool) → Counted n p i k → i < n → n < 4294967296 → d ≡ one r → Fits w32 (k + d)
+counted-fits {n} {p} {i} {k} {d} r c h few e = record { fits = omega (arith, c .few, one-le r) }
 
 -- ---- `for i in 0..n { if test(i) { if m < f(i) { m = f(i); } } } m` computes `largest n p f`; the turn as a call gives d
 

@@ -1,13 +1,13 @@
 -- Pieces put into a buffer: `put d at e`, `placed d at e`, one behind the other.
-use mathlib.Core.Path.{_≡_, refl, sym, ap, ap₂, _∙_}
-use mathlib.Core.Bool.{Bool, true, false}
+use mathlib.Core.Path.{_≡_, sym, ap, ap₂, _∙_}
 use mathlib.Core.List.{List, [], _∷_, _++_, append-nil, append-assoc}
-use Prim.Native.Nat.{ℕ, _+_, _≤_, _<_}
+use Prim.Native.Nat.{ℕ, suc, _+_, _≤_, _<_}
 use native.Mathlib.Nat.{add-zero, zero-add, add-assoc}
+use native.Mathlib.Numerals.{add-one}
 use native.Mathlib.Omega.{arith}
 use borrow.Author.Tests.{le-leb, lt-leb}
-use lib.ListN.{length, take, drop, length-append, length-drop, take-append-drop}
-use lib.Seq.{length-take-le, take-at, drop-append-add, drop-drop}
+use lib.ListN.{length, take, drop, set, length-append, length-drop, length-set, take-append-drop}
+use lib.Seq.{length-take-le, take-at, take-set-le, drop-append-add, drop-drop, drop-cons, drop-set-lt, getD-set-same, set-split, append-snoc}
 use Rattle.kit.specs.Lists.{put, placed}
 
 module _ {A : Type 0} where
@@ -23,6 +23,26 @@ module _ {A : Type 0} where
   pub put-front : (d e : List A) → put d 0 e ≡ e ++ drop (length e) d
   unfolding put
   put-front d e = ap (λ (k : ℕ). e ++ drop k d) (zero-add (length e))
+
+  -- one element
+  pub put-one : (d : List A) (at : ℕ) (x : A) → at < length d → put d at (x ∷ []) ≡ set d at x
+  unfolding put
+  put-one d at x h = rw (add-one at, append-snoc (take at d) x (drop (suc at) d), set-split d at x h)
+
+  -- the last element first, then those before it
+  pub put-last : (d : List A) (at : ℕ) (e : List A) (x : A) → at + length e < length d → put (set d (at + length e) x) at e ≡ put d at (e ++ (x ∷ []))
+  unfolding put
+  put-last d at e x h =
+      let p : ℕ = at + length e in
+      let s : List A = set d p x in
+      let hs : p < length s = omega (arith, length-set d p x) in
+      let front : take at s ≡ take at d = take-set-le at d p x (omega arith) in
+      let back : drop p s ≡ (x ∷ drop (suc p) d) =
+      drop-cons s p x hs ∙ ap₂ (λ (a : A) (l : List A). a ∷ l) (getD-set-same d p x x h) (drop-set-lt (suc p) d p x (omega arith)) in
+      let long : suc p ≡ at + length (e ++ (x ∷ [])) = omega (arith, length-append e (x ∷ [])) in
+      ap₂ (λ (a b : List A). a ++ e ++ b) front (back ∙ ap (λ (k : ℕ). x ∷ drop k d) long)
+      ∙ sym (append-snoc (take at d ++ e) x (drop (at + length (e ++ (x ∷ []))) d))
+      ∙ ap (λ (a : List A). a ++ drop (at + length (e ++ (x ∷ []))) d) (append-assoc (take at d) e (x ∷ []))
 
   -- the second begins where the first ends
   pub put-put : (d : List A) (at at′ : ℕ) (e f : List A) → at′ ≡ at + length e → at′ ≤ length d → put (put d at e) at′ f ≡ put d at (e ++ f)
@@ -53,3 +73,19 @@ module _ {A : Type 0} where
   pub placed-out : (d : List A) (at : ℕ) (e : List A) → length d < at + length e → placed d at e ≡ d
   unfolding placed
   placed-out d at e h = rw (lt-leb (at + length e) (length d) h)
+
+  -- ---- pieces placed one behind the other
+
+  -- one piece more
+  pub placed-more : (d d₁ d₂ : List A) (at p : ℕ) (x y : List A) → d₁ ≡ put d at x → p ≡ at + length x → p + length y ≤ length d → d₂ ≡ placed d₁ p y → d₂ ≡ put d at (x ++ y)
+  placed-more d d₁ d₂ at p x y e q h f =
+      let l : length d₁ ≡ length d = ap length e ∙ length-put d at x (omega arith) in
+      f ∙ placed-in d₁ p y (omega arith) ∙ ap (λ (b : List A). put b p y) e ∙ put-put d at p x y q (omega arith)
+
+  -- three pieces
+  pub placed-three : (d d₁ d₂ d₃ : List A) (at p q : ℕ) (x y z : List A) → p ≡ at + length x → q ≡ p + length y → q + length z ≤ length d
+      → d₁ ≡ placed d at x → d₂ ≡ placed d₁ p y → d₃ ≡ placed d₂ q z → d₃ ≡ put d at (x ++ (y ++ z))
+  placed-three d d₁ d₂ d₃ at p q x y z hp hq room e₁ e₂ e₃ =
+      let one : d₁ ≡ put d at x = e₁ ∙ placed-in d at x (omega arith) in
+      let two : d₂ ≡ put d at (x ++ y) = placed-more d d₁ d₂ at p x y one hp (omega arith) e₂ in
+      placed-more d d₂ d₃ at q (x ++ y) z two (omega (arith, length-append x y)) room e₃ ∙ ap (put d at) (append-assoc x y z)

@@ -1,13 +1,11 @@
 -- From `any`, `all`, `number`, `first` and `largest` to each number below n, and back.
-use mathlib.Core.Path.{_≡_, refl, sym, ap, ap₂, _∙_, subst}
+use mathlib.Core.Path.{_≡_, refl, sym, ap, _∙_}
 use mathlib.Core.Bool.{Bool, true, false, _&&_, _||_, cond, or-true, and-false}
-use mathlib.Core.List.{[], _∷_}
 use Prim.Native.Nat.{ℕ, zero, suc, _+_, _≤_, _<_, max}
 use native.Mathlib.Decide.{decLt, le-ind}
 use native.Mathlib.Nat.{le-refl, le-trans, add-comm, add-assoc, le-add-right}
 use native.Mathlib.Omega.{arith}
-use lib.ListN.{length, length-append}
-use Rattle.kit.specs.Range.{any, all, one, number, first, largest, passing}
+use Rattle.kit.specs.Range.{any, all, one, number, first, largest}
 use Rattle.kit.proofs.Bools.{clash, or-left, or-right, by-test}
 
 -- ---- one number more
@@ -141,9 +139,15 @@ first-hit (suc n) p e = go (first-hit n p) (any n p) refl (p n) refl e
 
 -- ---- how many
 
-one-le : (b : Bool) → one b ≤ 1
+-- a test counts at most once
+pub one-le : (b : Bool) → one b ≤ 1
 one-le true = omega arith
 one-le false = omega arith
+
+-- one that counts passes
+pub one-true : (b : Bool) → 0 < one b → b ≡ true
+one-true true h = refl
+one-true false h = absurd (let z : ⊥ = omega arith in z)
 
 pub number-le : (n : ℕ) (p : ℕ → Bool) → number n p ≤ n
 unfolding number
@@ -178,16 +182,6 @@ unfolding number
 number-low zero p = add-comm 0 (one (p 0))
 number-low (suc n) p =
     ap (λ (x : ℕ). x + one (p (suc n))) (number-low n p) ∙ add-assoc (one (p 0)) (number n (λ i. p (suc i))) (one (p (suc n)))
-
--- how many there are is the length of their list
-pub length-passing : (n : ℕ) (p : ℕ → Bool) → length (passing n p) ≡ number n p
-unfolding passing number
-length-passing zero p = refl
-length-passing (suc n) p = length-append (passing n p) _ ∙ ap₂ (λ (a b : ℕ). a + b) (length-passing n p) (last (p n))
-  where
-    last : (b : Bool) → length (cond b (n ∷ []) []) ≡ one b
-    last true = refl
-    last false = refl
 
 -- a number below n that both tests pass
 abbrev pub Common : ℕ → (ℕ → Bool) → (ℕ → Bool) → Type 0

@@ -5,20 +5,21 @@ use mathlib.Core.Bool.{true, false, false≢true}
 use mathlib.Core.List.{List, [], _∷_, Memᴰ·cast}
 use lib.Dec.{eqb}
 use borrow.Author.Tests.{eqb-true, eqb-false}
+use Rattle.kit.specs.Lists.{_among_}
 use Rattle.kit.proofs.Bools.{or-left, or-right, by-test, of-cond}
-use Rattle.ledger.specs.Ledger.{_among_, Request, begin, ok, against, accept, reject, History, acceptances, ofSite}
+use Rattle.kit.proofs.Members.{here, further, in-none, in-either, not-front}
+use Rattle.ledger.specs.Ledger.{Request, begin, ok, against, accept, reject, History, acceptances, ofSite}
 use Rattle.ledger.specs.Order.{named, firstMet, Once}
-use Rattle.ledger.proofs.Members.{here, further, in-none, in-either, skip}
 
 module _ {X : Type 0} where
   pub in-acceptances : (h : History X) {s : ℕ} {r : Request X} → accept s r among h → (s, r) among acceptances h
   unfolding acceptances
   in-acceptances [] m = in-none m
-  in-acceptances (begin q ∷ h) m = in-acceptances h (skip (λ p. cc) m)
-  in-acceptances (ok t q ∷ h) m = in-acceptances h (skip (λ p. cc) m)
-  in-acceptances (against t q ∷ h) m = in-acceptances h (skip (λ p. cc) m)
+  in-acceptances (begin q ∷ h) m = in-acceptances h (not-front (λ p. cc) m)
+  in-acceptances (ok t q ∷ h) m = in-acceptances h (not-front (λ p. cc) m)
+  in-acceptances (against t q ∷ h) m = in-acceptances h (not-front (λ p. cc) m)
   in-acceptances (accept t q ∷ h) m = in-either m (λ p. here (cc)) (λ k. further (in-acceptances h k))
-  in-acceptances (reject t q ∷ h) m = in-acceptances h (skip (λ p. cc) m)
+  in-acceptances (reject t q ∷ h) m = in-acceptances h (not-front (λ p. cc) m)
 
   pub acceptances-in : (h : History X) {s : ℕ} {r : Request X} → (s, r) among acceptances h → accept s r among h
   unfolding acceptances

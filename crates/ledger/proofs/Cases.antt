@@ -8,13 +8,14 @@ use mathlib.Core.List.{[], _∷_}
 use native.Mathlib.Omega.{arith}
 use lib.Dec.{eqb, ltb}
 use borrow.Author.Tests.{eqb-true, lt-ltb}
+use Rattle.kit.specs.Lists.{_among_}
 use Rattle.kit.specs.Range.{number}
+use Rattle.kit.proofs.Members.{here, further, in-none, in-either, not-front}
 use Rattle.majority.specs.Majority.{majority, blocking}
 use Rattle.majority.proofs.Majorities.{majority-le, blocking-le}
-use Rattle.ledger.specs.Ledger.{_among_, Request, Event, begin, ok, against, accept, reject, History, Proper, Covers, Concurrent}
+use Rattle.ledger.specs.Ledger.{Request, Event, begin, ok, against, accept, reject, History, Proper, Covers, Concurrent}
 use Rattle.ledger.specs.Ledger.{writes, written, copyOf, acceptances, ofSite, copyAt, Accepted, Quorum, Valid, start, next}
 use Rattle.ledger.specs.Order.{named, firstMet, order, overwritten, carried, Serial}
-use Rattle.ledger.proofs.Members.{here, further, in-none, in-either, skip}
 use Rattle.ledger.proofs.Orders.{serial, exclusive}
 
 -- the two requests, with the stamp k
@@ -53,18 +54,18 @@ first-accepted r p zeros = next {e = accept 0 r} (next {e = ok 0 r} (next {e = b
     (record { fresh = λ q m. in-none m; proper = p }))
     (record {
       begun = here refl;
-      free = λ m. in-none (skip (λ e. cc) m);
+      free = λ m. in-none (not-front (λ e. cc) m);
       same = λ i b. omega (arith, zeros i);
-      clear = λ q m c. in-none (skip (λ e. cc) m);
+      clear = λ q m c. in-none (not-front (λ e. cc) m);
     }))
     (accepting (here refl))
 
 -- then there is no other in the history
 begun-first : (q r : Request ℕ) → begin q among first-in r → q ≡ r
-begun-first q r m = in-either (skip (λ e. cc) (skip (λ e. cc) m)) (λ e. cc) (λ k. in-none k)
+begun-first q r m = in-either (not-front (λ e. cc) (not-front (λ e. cc) m)) (λ e. cc) (λ k. in-none k)
 
 voted-first : (q r d : Request ℕ) → ok 0 q among begin d ∷ first-in r → q ≡ r
-voted-first q r d m = in-either (skip (λ e. cc) (skip (λ e. cc) m)) (λ e. cc) (λ k. in-none (skip (λ e. cc) k))
+voted-first q r d m = in-either (not-front (λ e. cc) (not-front (λ e. cc) m)) (λ e. cc) (λ k. in-none (not-front (λ e. cc) k))
 
 -- the second begins
 second-begun : (q r : Request ℕ) → Proper q → (r .stamp ≡ q .stamp → ⊥) → Valid 1 0 (first-in r) → Valid 1 0 (begin q ∷ first-in r)
@@ -83,7 +84,7 @@ case-seven = next {e = accept 0 (narrow 17)} (next {e = ok 0 (narrow 17)}
     (first-accepted (wide 9) (wide-proper 9 (omega arith)) (λ i. refl)))
     (record {
       begun = here refl;
-      free = λ m. in-none (skip (λ e. cc) (skip (λ e. cc) (skip (λ e. cc) (skip (λ e. cc) m))));
+      free = λ m. in-none (not-front (λ e. cc) (not-front (λ e. cc) (not-front (λ e. cc) (not-front (λ e. cc) m))));
       same = λ i b. subst (λ (j : ℕ). copyAt 0 (begin (narrow 17) ∷ first-in (wide 9)) 0 j .stamp ≡ 0) (sym (eqb-true i 1 b)) refl;
       clear = λ q m c. inl (further (here (ap (accept 0) (voted-first q (wide 9) (narrow 17) m))));
     }))

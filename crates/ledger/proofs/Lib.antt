@@ -1,5 +1,4 @@
 -- The laws and theorems of the ledger; README.md beside this folder lists them on one page.
-pub mod Members
 pub mod Past
 pub mod Newest
 pub mod Acceptances

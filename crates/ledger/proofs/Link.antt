@@ -6,14 +6,15 @@ use mathlib.Core.Bool.{Bool, true, false, cond}
 use mathlib.Core.List.{[], _∷_, _++_, append-assoc, Memᴰ·cast}
 use native.Mathlib.Omega.{arith}
 use lib.Dec.{eqb}
+use Rattle.kit.specs.Lists.{_among_}
 use Rattle.kit.proofs.Bools.{clash, by-eq}
+use Rattle.kit.proofs.Members.{here, further, in-none, in-either, not-front}
 use Rattle.majority.specs.Majority.{majority, blocking}
-use Rattle.ledger.specs.Ledger.{_among_, Reading, Request, Event, begin, ok, against, accept, reject, History, Conflict}
+use Rattle.ledger.specs.Ledger.{Reading, Request, Event, begin, ok, against, accept, reject, History, Conflict}
 use Rattle.ledger.specs.Ledger.{reading, blank, writes, written, copyOf, acceptances, ofSite, copyAt, Settled}
 use Rattle.ledger.specs.Ledger.{Quorum, Allowed, Valid, start, next}
 use Rattle.ledger.specs.View.{Word, votes-ok, votes-against, accepts, rejects, Word-discrete, View, event, copyAfter, HeldIn, Judged, Stays}
 use Rattle.ledger.specs.View.{Begins, Quiet, Enough, CanOk, Can, Says, Run, stay, quiet, begins, says, Goes, Tied}
-use Rattle.ledger.proofs.Members.{here, further, in-none, in-either, skip}
 use Rattle.ledger.proofs.Safety.{ok-quorum, against-quorum, ok-begun, against-begun, accept-begun, reject-begun}
 
 -- by cases: what is said is the very thing, or another
@@ -62,13 +63,13 @@ module _ {X : Type 0} where
   event-begun v rejects s m = reject-begun v m
 
   begun-before : {h : History X} (k : Word) (s : ℕ) (q r : Request X) → begin q among event k s r ∷ h → begin q among h
-  begun-before k s q r m = skip (λ e. begin-not k s r q (sym e)) m
+  begun-before k s q r m = not-front (λ e. begin-not k s r q (sym e)) m
 
   begun-now : {h : History X} {q r : Request X} {P : Type 0} → begin q among begin r ∷ h → (q ≡ r → P) → (begin q among h → P) → P
   begun-now m f g = in-either m (λ e. f (cc)) g
 
   said-before : {h : History X} (k : Word) (s : ℕ) (q r : Request X) → event k s q among begin r ∷ h → event k s q among h
-  said-before k s q r m = skip (begin-not k s q r) m
+  said-before k s q r m = not-front (begin-not k s q r) m
 
   -- ---- copies
 

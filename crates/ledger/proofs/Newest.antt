@@ -5,11 +5,12 @@ use mathlib.Core.Bool.{true, false}
 use mathlib.Core.List.{List, [], _∷_}
 use native.Mathlib.Omega.{arith}
 use borrow.Author.Tests.{ltb-true, ltb-false, lt-ltb}
+use Rattle.kit.specs.Lists.{_among_}
 use Rattle.kit.proofs.Bools.{clash, and-left, by-test, of-cond}
-use Rattle.ledger.specs.Ledger.{_among_, Reading, Request, Proper, reading, writes, written, copyOf}
+use Rattle.kit.proofs.Members.{here, further, in-none, in-either}
+use Rattle.ledger.specs.Ledger.{Reading, Request, Proper, reading, writes, written, copyOf}
 use Rattle.ledger.specs.Promise.{Newest, unchanged, changed-by}
 use Rattle.ledger.specs.Order.{overwritten, carried, Serial}
-use Rattle.ledger.proofs.Members.{here, further, in-none, in-either}
 
 module _ {X : Type 0} where
   abbrev pub AllProper : List (Request X) → Type 0

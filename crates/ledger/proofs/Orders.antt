@@ -6,13 +6,14 @@ use mathlib.Core.Logic.{_⊎_, inl, inr}
 use mathlib.Core.Bool.{true}
 use mathlib.Core.List.{List, [], _∷_, _++_, List·Memᴰ·cases-cons, Memᴰ·append-right}
 use native.Mathlib.Omega.{arith}
+use Rattle.kit.specs.Lists.{_among_}
 use Rattle.kit.proofs.Bools.{of-cond}
+use Rattle.kit.proofs.Members.{further, in-none, in-either}
 use Rattle.majority.specs.Majority.{majority}
-use Rattle.ledger.specs.Ledger.{_among_, Reading, Request, begin, ok, against, accept, reject, History, Covers, Concurrent}
+use Rattle.ledger.specs.Ledger.{Reading, Request, begin, ok, against, accept, reject, History, Covers, Concurrent}
 use Rattle.ledger.specs.Ledger.{copyOf, acceptances, copyAt, Settled, Accepted, Quorum, Allowed, Valid, start, next}
 use Rattle.ledger.specs.Promise.{Newest, unchanged, changed-by}
 use Rattle.ledger.specs.Order.{named, firstMet, order, carried, Serial}
-use Rattle.ledger.proofs.Members.{further, in-none, in-either}
 use Rattle.ledger.proofs.Past.{Came, CameAfter, InTurn, came, in-turn}
 use Rattle.ledger.proofs.Newest.{AllProper, bound, newest-iff, newest-one, copy-newest, carried-copy}
 use Rattle.ledger.proofs.Acceptances.{in-acceptances, acceptances-in, named-not, met-in, in-met}

@@ -3,8 +3,9 @@ use Prim.Native.Nat.{ℕ}
 use mathlib.Core.Path.{_≡_, sym, _∙_, subst}
 use mathlib.Core.Logic.{_⊎_, inl, inr}
 use mathlib.Core.List.{_∷_, List·Memᴰ·cases-cons}
-use Rattle.ledger.specs.Ledger.{_among_, Event, History, Allowed, Valid, start, next}
-use Rattle.ledger.proofs.Members.{further, in-none, in-either}
+use Rattle.kit.specs.Lists.{_among_}
+use Rattle.kit.proofs.Members.{further, in-none, in-either}
+use Rattle.ledger.specs.Ledger.{Event, History, Allowed, Valid, start, next}
 
 module _ {X : Type 0} (n : ℕ) (x : X) where
   -- When e came: the history before it, which allowed it, and of which all is still in h.

@@ -3,10 +3,11 @@ use Prim.Native.Nat.{ℕ, _≤_}
 use mathlib.Core.Path.{_≡_, sym}
 use mathlib.Core.Logic.{inl, inr}
 use native.Mathlib.Omega.{arith}
+use Rattle.kit.specs.Lists.{_among_}
 use Rattle.kit.proofs.Ranges.{Common, one-of}
 use Rattle.majority.specs.Majority.{majority, blocking}
 use Rattle.majority.proofs.Majorities.{majorities-meet, verdicts-meet, blocking-some}
-use Rattle.ledger.specs.Ledger.{_among_, Request, Event, begin, ok, against, accept, reject, History, Proper, Covers, Conflict}
+use Rattle.ledger.specs.Ledger.{Request, Event, begin, ok, against, accept, reject, History, Proper, Covers, Conflict}
 use Rattle.ledger.specs.Ledger.{acceptances, ofSite, copyAt, Accepted, Quorum, Valid}
 use Rattle.ledger.specs.Promise.{Newest}
 use Rattle.ledger.proofs.Past.{InTurn, came, in-turn}

@@ -6,15 +6,11 @@ use Prim.Native.Nat.{ℕ, _≤_, _<_}
 use mathlib.Core.Path.{_≡_}
 use mathlib.Core.Logic.{_⊎_}
 use mathlib.Core.Bool.{Bool, true, cond, _&&_}
-use mathlib.Core.List.{List, [], _∷_, List·Memᴰ}
+use mathlib.Core.List.{List, [], _∷_}
 use lib.Dec.{eqb, ltb}
+use Rattle.kit.specs.Lists.{_among_}
 use Rattle.kit.specs.Range.{number}
 use Rattle.majority.specs.Majority.{majority, blocking}
-
--- a stands in the list l
-infix 4 _among_
-abbrev pub _among_ : {A : Type 0} → A → List A → Type 0
-a among l = List·Memᴰ a l
 
 -- "A reading is a daily rate .. with a stamp."
 pub record Reading (X : Type 0) : Type 0 where

@@ -4,7 +4,8 @@ use mathlib.Core.Path.{_≡_}
 use mathlib.Core.Bool.{Bool, true, false, cond, _||_}
 use mathlib.Core.List.{List, [], _∷_}
 use lib.Dec.{eqb}
-use Rattle.ledger.specs.Ledger.{_among_, Reading, Request, accept, History, reading, blank, acceptances, Accepted}
+use Rattle.kit.specs.Lists.{_among_}
+use Rattle.ledger.specs.Ledger.{Reading, Request, accept, History, reading, blank, acceptances, Accepted}
 use Rattle.ledger.specs.View.{View}
 use Rattle.ledger.specs.Promise.{Newest}
 

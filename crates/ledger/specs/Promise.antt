@@ -2,7 +2,8 @@
 use Prim.Native.Nat.{ℕ, _≤_, _<_}
 use mathlib.Core.Path.{_≡_}
 use mathlib.Core.Bool.{true}
-use Rattle.ledger.specs.Ledger.{_among_, Reading, Request, accept, reject, History, Covers, Concurrent, reading, blank, Accepted}
+use Rattle.kit.specs.Lists.{_among_}
+use Rattle.ledger.specs.Ledger.{Reading, Request, accept, reject, History, Covers, Concurrent, reading, blank, Accepted}
 use Rattle.ledger.specs.View.{View}
 
 module _ {X : Type 0} (x : X) where

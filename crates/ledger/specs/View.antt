@@ -5,9 +5,10 @@ use mathlib.Core.Logic.{_⊎_}
 use mathlib.Core.Bool.{Bool, true, false, cond}
 use mathlib.Core.List.{_∷_, _++_}
 use lib.Dec.{eqb}
+use Rattle.kit.specs.Lists.{_among_}
 use Rattle.kit.specs.Range.{number}
 use Rattle.majority.specs.Majority.{majority, blocking}
-use Rattle.ledger.specs.Ledger.{_among_, Reading, Request, Event, begin, ok, against, accept, reject, History}
+use Rattle.ledger.specs.Ledger.{Reading, Request, Event, begin, ok, against, accept, reject, History}
 use Rattle.ledger.specs.Ledger.{Proper, Conflict, written, copyAt, Settled, Valid}
 
 -- What a site can say of a request: its "own mark" where that is a vote, OK or one of the others, and its verdict.

@@ -1,46 +1,23 @@
 -- What the writers' code writes: digits from the last to the first, fields one behind the other, the line.
-use mathlib.Core.Path.{_≡_, refl, sym, ap, ap₂, _∙_}
+use mathlib.Core.Path.{_≡_, refl, sym, ap, _∙_}
 use mathlib.Core.Bool.{Bool, true, false, not}
 use mathlib.Core.List.{List, [], _∷_, _++_, append-assoc}
 use Prim.Native.Nat.{ℕ, suc, _+_, _-_, _/_, _%_, _≤_, _<_}
-use native.Mathlib.Numerals.{add-one}
 use native.Mathlib.Omega.{arith}
 use borrow.Author.Tests.{le-leb, lt-leb}
 use lib.Dec.{leb}
 use lib.IntN.{ℤ, pos, natAbs}
 use lib.Signed.{leZ}
-use lib.ListN.{length, take, drop, set, length-append, length-set}
-use lib.Seq.{take-set-le, drop-set-lt, drop-cons, getD-set-same, set-split, append-snoc}
+use lib.ListN.{length, set, length-append, length-set}
 use mir.Syntax.{w64}
 use mir.Val.{SFits, toZ, ofZ}
 use mir.Facts.{toZ-ofZ}
 use Rattle.kit.specs.Lists.{put, placed}
 use Rattle.kit.proofs.Fields.{ends-in, ends-out}
-use Rattle.kit.proofs.Puts.{length-put, put-put, placed-in, placed-out}
+use Rattle.kit.proofs.Puts.{length-put, put-put, placed-in, placed-out, put-one, put-last}
 use Rattle.lines.specs.Lines.{decimalOf, signedOf, field, lineOf, frontOf, backOf, fitted, Wrote}
 use Rattle.lines.proofs.Decimals.{decimal-small, decimal-more, length-small, length-more}
 use Rattle.lines.proofs.Signs.{signed-plus, signed-minus}
-
--- ---- one byte
-
-pub put-one : (d : List ℕ) (at x : ℕ) → at < length d → put d at (x ∷ []) ≡ set d at x
-unfolding put
-put-one d at x h = rw (add-one at, append-snoc (take at d) x (drop (suc at) d), set-split d at x h)
-
--- the last byte first, then those before it
-pub put-last : (d : List ℕ) (at : ℕ) (e : List ℕ) (x : ℕ) → at + length e < length d → put (set d (at + length e) x) at e ≡ put d at (e ++ (x ∷ []))
-unfolding put
-put-last d at e x h =
-    let p : ℕ = at + length e in
-    let s : List ℕ = set d p x in
-    let hs : p < length s = omega (arith, length-set d p x) in
-    let front : take at s ≡ take at d = take-set-le at d p x (omega arith) in
-    let back : drop p s ≡ (x ∷ drop (suc p) d) =
-    drop-cons s p 0 hs ∙ ap₂ (λ (a : ℕ) (l : List ℕ). a ∷ l) (getD-set-same d p x 0 h) (drop-set-lt (suc p) d p x (omega arith)) in
-    let long : suc p ≡ at + length (e ++ (x ∷ [])) = omega (arith, length-append e (x ∷ [])) in
-    ap₂ (λ (a b : List ℕ). a ++ e ++ b) front (back ∙ ap (λ (k : ℕ). x ∷ drop k d) long)
-    ∙ sym (append-snoc (take at d ++ e) x (drop (at + length (e ++ (x ∷ []))) d))
-    ∙ ap (λ (a : List ℕ). a ++ drop (at + length (e ++ (x ∷ []))) d) (append-assoc (take at d) e (x ∷ []))
 
 -- ---- the digits of a number: what is left to write are those of `rest`, which end at i
 

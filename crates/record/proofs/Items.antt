@@ -1,10 +1,10 @@
 -- A loop over the items of a set, lowest first: what is left of the set gives up its lowest item at each turn, and an array is filled at that
 -- item. The lowest item of a number that is not 0 is the count of the zeros below it, and `n & (n - 1)` is n without it; each over the width k.
-use mathlib.Core.Path.{_≡_, refl, sym, ap, _∙_, subst}
-use mathlib.Core.Bool.{Bool, true, false, not, _&&_, cond, and-true, and-false}
+use mathlib.Core.Path.{_≡_, refl, sym, ap, _∙_}
+use mathlib.Core.Bool.{true, false, not, _&&_, cond, and-true, and-false}
 use mathlib.Core.List.{List}
 use Prim.Native.Nat.{ℕ, zero, suc, _+_, _-_, _*_, _/_, _%_, _^_, _≤_, _<_}
-use native.Mathlib.Nat.{div-one, mod-lt, zero-lt-suc, mul-suc, mul-zero, add-zero, add-assoc, mul-div-cancel, mul-mod-left, mul-le-mul-left, le-trans, lt-of-le-of-lt}
+use native.Mathlib.Nat.{mod-lt, zero-lt-suc, mul-suc, mul-zero, add-zero, add-assoc, mul-div-cancel, mul-mod-left, mul-le-mul-left, le-trans, lt-of-le-of-lt}
 use native.Mathlib.Numerals.{add-one}
 use native.Mathlib.Omega.{arith}
 use borrow.Author.Tests.{eq-eqb, ne-eqb}
@@ -13,23 +13,16 @@ use lib.Bits.{bitAnd, and-step, and-self, and-le-l, and-le-r}
 use lib.Count.{trailingZeros, under}
 use lib.Dec.{eqb, eqb·suc-suc, eqb·suc-zero}
 use lib.ListN.{replicate, set}
-use lib.Pow.{shr-lt}
 use Rattle.kit.specs.Range.{number}
 use Rattle.kit.proofs.Bools.{clash, by-lt, by-eq, by-le, cond-yes, cond-no}
-use Rattle.kit.proofs.Listings.{Filled, filled-start, filled-put, filled-end}
+use Rattle.kit.proofs.Counts.{number-gap}
+use Rattle.kit.proofs.Listings.{Filled, filled-start, filled-put, filled-over, filled-end}
 use Rattle.kit.proofs.Ranges.{number-suc, number-le}
 use Rattle.sets.specs.Sets.{member}
-use Rattle.sets.proofs.Laws.{member-half, member-none, above}
+use Rattle.sets.proofs.Laws.{member-half, member-none, above, half-lt, low-bit}
 use Rattle.record.specs.Bodies.{entryAt, byItem}
 
 -- ---- the lowest item
-
-half-lt : {n : ℕ} (k : ℕ) → n < 2 ^ suc k → n / 2 < 2 ^ k
-half-lt {n} k h = shr-lt k 1 (subst (λ (x : ℕ). n < 2 ^ x) (sym (add-one k)) h)
-
-member-low : (n : ℕ) → member n 0 ≡ eqb (n % 2) 1
-unfolding member
-member-low n = ap (λ (x : ℕ). eqb (x % 2) 1) (div-one n)
 
 -- no item below it is in the set
 pub lower : (k n i : ℕ) → i < trailingZeros k n → member n i ≡ false
@@ -39,7 +32,7 @@ lower (suc k) n i h = go (n % 2) refl i h (lower k (n / 2))
   where
     go : (d : ℕ) → n % 2 ≡ d → (i : ℕ) → i < under d (trailingZeros k (n / 2))
         → ((j : ℕ) → j < trailingZeros k (n / 2) → member (n / 2) j ≡ false) → member n i ≡ false
-    go zero e zero h below = member-low n ∙ ap (λ (x : ℕ). eqb x 1) e
+    go zero e zero h below = low-bit n ∙ ap (λ (x : ℕ). eqb x 1) e
     go zero e (suc i) h below = member-half n i ∙ below i (omega arith)
     go (suc d) e i h below = absurd (let z : ⊥ = omega arith in z)
 
@@ -52,7 +45,7 @@ lowest (suc k) n ne h = go (n % 2) refl (mod-lt n (zero-lt-suc 1)) (λ z. lowest
     go : (d : ℕ) → n % 2 ≡ d → n % 2 < 2 → ((n / 2 ≡ 0 → ⊥) → member (n / 2) (trailingZeros k (n / 2)) ≡ true)
         → member n (under d (trailingZeros k (n / 2))) ≡ true
     go zero e l half = member-half n (trailingZeros k (n / 2)) ∙ half (λ z. ne (omega arith))
-    go (suc zero) e l half = member-low n ∙ ap (λ (x : ℕ). eqb x 1) e
+    go (suc zero) e l half = low-bit n ∙ ap (λ (x : ℕ). eqb x 1) e
     go (suc (suc d)) e l half = absurd (let z : ⊥ = omega arith in z)
 
 -- `n & (n - 1)` is the set without it
@@ -68,7 +61,7 @@ without-lowest (suc k) n i ne h = go (n % 2) refl (mod-lt n (zero-lt-suc 1)) i (
     odd e = let p : (n - 1) / 2 ≡ n / 2 = omega arith in let q : (n - 1) % 2 ≡ 0 = omega arith in rw (and-step n (n - 1), p, q, e, and-self, add-zero)
 
     twice-low : (m : ℕ) → member (m * 2) 0 ≡ false
-    twice-low m = member-low (m * 2) ∙ ap (λ (x : ℕ). eqb x 1) (mul-mod-left m 2)
+    twice-low m = low-bit (m * 2) ∙ ap (λ (x : ℕ). eqb x 1) (mul-mod-left m 2)
 
     twice : (m i : ℕ) → member (m * 2) (suc i) ≡ member m i
     twice m i = member-half (m * 2) i ∙ ap (λ (x : ℕ). member x i) (mul-div-cancel m (zero-lt-suc 1))
@@ -76,7 +69,7 @@ without-lowest (suc k) n i ne h = go (n % 2) refl (mod-lt n (zero-lt-suc 1)) i (
     go : (d : ℕ) → n % 2 ≡ d → n % 2 < 2 → (i : ℕ)
         → ((j : ℕ) → (n / 2 ≡ 0 → ⊥) → member (bitAnd (n / 2) (n / 2 - 1)) j ≡ (member (n / 2) j && not (eqb j (trailingZeros k (n / 2)))))
         → member (bitAnd n (n - 1)) i ≡ (member n i && not (eqb i (under d (trailingZeros k (n / 2)))))
-    go zero e l zero half = rw (even e, twice-low (bitAnd (n / 2) (n / 2 - 1)), member-low n, e)
+    go zero e l zero half = rw (even e, twice-low (bitAnd (n / 2) (n / 2 - 1)), low-bit n, e)
     go zero e l (suc i) half =
         rw (even e, twice (bitAnd (n / 2) (n / 2 - 1)) i, member-half n i, eqb·suc-suc i (trailingZeros k (n / 2))) (half i (λ z. ne (omega arith)))
     go (suc zero) e l zero half = rw (odd e, twice-low (n / 2), and-false)
@@ -84,12 +77,6 @@ without-lowest (suc k) n i ne h = go (n % 2) refl (mod-lt n (zero-lt-suc 1)) i (
     go (suc (suc d)) e l i half = absurd (let z : ⊥ = omega arith in z)
 
 -- ---- where the entries stand
-
-number-gap : (p : ℕ → Bool) (a b : ℕ) → a ≤ b → ((i : ℕ) → a ≤ i → i < b → p i ≡ false) → number b p ≡ number a p
-number-gap p a zero h none = let e : a ≡ 0 = omega arith in rw e
-number-gap p a (suc b) h none =
-    by-le a b (λ l. rw (number-suc, none b l (omega arith), add-zero) (number-gap p a b l (λ i x y. none i x (omega arith))))
-    (λ l. let e : a ≡ suc b = omega arith in rw e)
 
 -- the first begins at the start
 pub entry-first : (start w s : ℕ) → entryAt start w s 0 ≡ start
@@ -156,14 +143,6 @@ module _ {A : Type 0} (none : A) (f : ℕ → A) (start w s : ℕ) where
   walked-start h =
       record { from = 0; few = omega arith; small = h; left-is = left-all s; at-is = sym (entry-first start w s); filled = filled-start none 24 entry }
 
-  -- items that are outside the set are passed over
-  filled-over : (i j : ℕ) (r : List A) → i ≤ j → ((k : ℕ) → i ≤ k → k < j → none ≡ entry k) → Filled none 24 entry i r → Filled none 24 entry j r
-  filled-over i j r h e v = record {
-    long = v .long;
-    done = λ k l. by-lt k i (λ m. v .done k m) (λ m. v .left k m ∙ e k m l);
-    left = λ k l. v .left k (omega arith);
-  }
-
   module _ {left at : ℕ} {r : List A} (v : Walked left at r) where
     pub walked-room : at ≤ start + w * 24
     walked-room = rw (v .at-is) (entry-le start w s (v .from) (v .few))
@@ -190,7 +169,7 @@ module _ {A : Type 0} (none : A) (f : ℕ → A) (start w s : ℕ) where
             at-is = sym (entry-next start w s i m ∙ ap (λ (x : ℕ). x + w) here);
             filled =
                 filled-put none 24 entry i r a walked-item (e ∙ ap f (sym here) ∙ sym (cond-yes _ none m))
-                (filled-over (v .from) i r lo (λ k x y. sym (cond-no (f (entryAt start w s k)) none (over k x y))) (v .filled));
+                (filled-over none 24 entry (v .from) i r lo (λ k x y. sym (cond-no (f (entryAt start w s k)) none (over k x y))) (v .filled));
           }
 
       pub walked-less : bitAnd left (left - 1) < left
@@ -200,5 +179,5 @@ module _ {A : Type 0} (none : A) (f : ℕ → A) (start w s : ℕ) where
     unfolding byItem
     walked-end z =
         filled-end none 24 entry 24 r (omega arith)
-        (filled-over (v .from) 24 r (v .few)
+        (filled-over none 24 entry (v .from) 24 r (v .few)
         (λ k x y. sym (cond-no (f (entryAt start w s k)) none (sym (v .left-is .behind k x) ∙ ap (λ (n : ℕ). member n k) z ∙ member-none k))) (v .filled))

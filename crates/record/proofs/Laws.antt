@@ -2,18 +2,17 @@
 use mathlib.Core.Path.{_≡_, refl, sym, ap, _∙_, subst}
 use mathlib.Core.Bool.{true, false, _&&_}
 use mathlib.Core.Logic.{_⊎_, inl, inr}
-use mathlib.Core.List.{List, [], _∷_, _++_}
-use Prim.Native.Nat.{ℕ, zero, suc, _+_, _*_, _^_, _≤_, _<_}
+use mathlib.Core.List.{List, _++_}
+use Prim.Native.Nat.{ℕ, _+_, _^_, _≤_, _<_}
 use native.Mathlib.Omega.{arith}
 use borrow.Author.Tests.{ltb-false, eqb-true, leb-true}
 use lib.Dec.{lit<, eqb, leb, ltb}
 use lib.IntN.{pos}
 use lib.ListN.{length, getD, take, drop, replicate, length-append, length-drop, take-append-drop, List·getD-append, List·getD-eq-default}
 use lib.Seq.{getD-drop, length-take-le, take-append-le, drop-append-le}
-use Rattle.kit.specs.Bytes.{le, fieldAt}
 use Rattle.kit.proofs.Bools.{clash, by-test, by-lt, of-cond, or-left, or-right, and-left, and-right, cond-yes, cond-no}
-use Rattle.kit.proofs.Fields.{field-in, field-lt}
-use Rattle.kit.proofs.Listings.{length-listed, listed-at}
+use Rattle.kit.proofs.Fields.{field-front, field-lt, take-small}
+use Rattle.kit.proofs.Listings.{length-listed, listed-at, replicate-at}
 use Rattle.sets.specs.Sets.{member, ofItems}
 use Rattle.sets.proofs.Members.{items-of}
 use Rattle.record.specs.Bodies.{blankStep, entryAt, byItem, stampAt, valueAt, baseOf, updateOf, valuesFrom, beginStep, tellStep, placeStep, siteStep, retireStep, readStep}
@@ -116,19 +115,6 @@ taken-code s =
 
 -- ---- a record depends on its own bytes alone
 
-le-front : (n : ℕ) (l r : List ℕ) → n ≤ length l → le n (l ++ r) ≡ le n l
-unfolding le
-le-front zero l r h = refl
-le-front (suc n) [] r h = absurd (let z : ⊥ = omega arith in z)
-le-front (suc n) (b ∷ l) r h = ap (λ (x : ℕ). b + 256 * x) (le-front n l r (omega arith))
-
-pub field-front : (l r : List ℕ) (at n : ℕ) → n ≤ 8 → at + n ≤ length l → fieldAt (l ++ r) at n ≡ fieldAt l at n
-field-front l r at n h k =
-    field-in (l ++ r) at n h (rw length-append (omega arith))
-    ∙ ap (le n) (drop-append-le at l r (omega arith))
-    ∙ le-front n (drop at l) r (rw length-drop (omega arith))
-    ∙ sym (field-in l at n h k)
-
 length-front : (l r : List ℕ) → 3 ≤ length l → lengthOf (l ++ r) ≡ lengthOf l
 length-front l r h = field-front l r 1 2 (omega arith) h
 
@@ -209,11 +195,6 @@ base-items {t} k = items-of (t .base) (k .base-lt)
 pub update-items : {t : Step} → Keeps t → ofItems (t .update) ≡ true
 update-items {t} k = items-of (t .update) (k .update-lt)
 
-all-same : {A : Type 0} (n i : ℕ) (d : A) → getD (replicate n d) i d ≡ d
-all-same zero i d = refl
-all-same (suc n) zero d = refl
-all-same (suc n) (suc i) d = all-same n i d
-
 -- a step with no sets
 plain-keeps : (t : Step) → t .base ≡ 0 → t .update ≡ 0 → t .clock ≡ 0 → t .stamps ≡ replicate 24 0 → t .values ≡ replicate 24 (pos 0)
     → t .stamp < 2 ^ 40 → Keeps t
@@ -224,9 +205,9 @@ plain-keeps t b u c ss vs h = record {
   stamp-lt = h;
   stamps-long = rw ss;
   values-long = rw vs;
-  stamps-lt = λ i. rw (ss, all-same {A = ℕ} 24 i 0) (lit< tt);
-  stamps-out = λ i m. rw ss (all-same 24 i 0);
-  values-out = λ i m. rw vs (all-same 24 i (pos 0));
+  stamps-lt = λ i. rw (ss, replicate-at {A = ℕ} 24 i 0) (lit< tt);
+  stamps-out = λ i m. rw ss (replicate-at 24 i 0);
+  values-out = λ i m. rw vs (replicate-at 24 i (pos 0));
 }
 
 module _ (b : List ℕ) (small : (i : ℕ) → getD b i 0 < 256) where
@@ -262,17 +243,11 @@ module _ (b : List ℕ) (small : (i : ℕ) → getD b i 0 < 256) where
           (λ _. of-cond Kept (eqb c 7) (λ _. plain-keeps (retireStep b) refl refl refl refl refl (field-lt b 0 5 small))
           (λ _. of-cond Kept (eqb c 8) (λ _. plain-keeps (readStep b) refl refl refl refl refl (lit< tt)) (λ _. tt))))))
 
-small-take : (n : ℕ) (l : List ℕ) → ((i : ℕ) → getD l i 0 < 256) → (i : ℕ) → getD (take n l) i 0 < 256
-small-take zero l h i = lit< tt
-small-take (suc n) [] h i = lit< tt
-small-take (suc n) (a ∷ l) h zero = h 0
-small-take (suc n) (a ∷ l) h (suc i) = small-take n l (λ j. h (suc j)) i
-
 -- the step of any record, refused or not
 pub record-keeps : (s : List ℕ) → ((i : ℕ) → getD s i 0 < 256) → Keeps (recordOf s .step)
 record-keeps s small =
     by-record s (λ (r : Record). Keeps (r .step)) (λ _. blank) (λ _ _. blank) (λ _. blank)
-    (λ m t _ a _. asked-keeps (bodyOf s) (small-take (lengthOf s) (drop 3 s) (λ i. rw getD-drop (small (3 + i)))) (codeOf s) m t a)
+    (λ m t _ a _. asked-keeps (bodyOf s) (take-small (lengthOf s) (drop 3 s) (λ i. rw getD-drop (small (3 + i)))) (codeOf s) m t a)
   where
     blank : Keeps blankStep
     blank = plain-keeps blankStep refl refl refl refl refl (lit< tt)

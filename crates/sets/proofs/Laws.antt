@@ -12,7 +12,7 @@ use lib.Count.{ones, ones-step}
 use lib.Dec.{eqb, leb, ltb, lit<, eqb·zero-suc, eqb·suc-zero, eqb·suc-suc}
 use lib.Pow.{shr-lt, pow-pos, pow-lt, pow-mono, field, mod-mod-pow, low, high}
 use Rattle.kit.specs.Range.{any, all, one, number, implies}
-use Rattle.kit.proofs.Bools.{clash, same-test, by-test, by-lt, by-le}
+use Rattle.kit.proofs.Bools.{clash, same-test, by-test, by-lt, by-le, implied-and, and-implied}
 use Rattle.kit.proofs.Ranges.{all-of, all-at, any-at, any-one, none-of, number-same, number-low}
 use Rattle.sets.specs.Sets.{member, setOf}
 
@@ -86,10 +86,12 @@ member-one (suc i) (suc j) =
 
 -- ---- the members decide the set
 
-half-lt : {s : ℕ} (k : ℕ) → s < 2 ^ suc k → s / 2 < 2 ^ k
+-- half of a number of one bit more
+pub half-lt : {s : ℕ} (k : ℕ) → s < 2 ^ suc k → s / 2 < 2 ^ k
 half-lt {s} k h = shr-lt k 1 (subst (λ (x : ℕ). s < 2 ^ x) (sym (add-comm k 1 ∙ omega arith)) h)
 
-low-bit : (s : ℕ) → member s 0 ≡ eqb (s % 2) 1
+-- item 0 is the lowest bit
+pub low-bit : (s : ℕ) → member s 0 ≡ eqb (s % 2) 1
 unfolding member
 low-bit s = ap (λ (x : ℕ). eqb (x % 2) 1) (div-one s)
 
@@ -190,14 +192,6 @@ empty-law k s p hs same =
 -- `a & b != 0`
 pub meets-law : (k a b : ℕ) → a < 2 ^ k → not (eqb (bitAnd a b) 0) ≡ any k (λ i. member a i && member b i)
 meets-law k a b ha = empty-law k (bitAnd a b) (λ i. member a i && member b i) (and-lt-left k a b ha) (member-and a b)
-
-implied-and : (x y : Bool) → implies x y ≡ true → (x && y) ≡ x
-implied-and true y e = e
-implied-and false y e = refl
-
-and-implied : (x y : Bool) → (x && y) ≡ x → implies x y ≡ true
-and-implied true y e = e
-and-implied false y e = refl
 
 -- `a & b == a`
 pub inside-law : (k a b : ℕ) → a < 2 ^ k → eqb (bitAnd a b) a ≡ all k (λ i. implies (member a i) (member b i))

@@ -2,7 +2,7 @@
 -- readings that were read are written as the bytes that held them.
 use mathlib.Core.Path.{_≡_, refl, sym, ap, ap₂, _∙_, subst}
 use mathlib.Core.Bool.{true, false}
-use mathlib.Core.List.{List, _∷_, map, append-assoc}
+use mathlib.Core.List.{List, map, append-assoc}
 use Prim.Native.Nat.{ℕ, zero, suc, _-_, _*_, _≤_, _<_}
 use native.Mathlib.Nat.{lt-of-le-of-lt, mul-le-mul-left}
 use native.Mathlib.Omega.{arith}
@@ -13,7 +13,8 @@ use lib.ListN.{length, getD, length-map, List·getD-map}
 use Rattle.kit.specs.Lists.{listed}
 use Rattle.kit.specs.Range.{any, number, passing}
 use Rattle.kit.proofs.Bools.{by-test}
-use Rattle.kit.proofs.Listings.{length-listed, listed-at, listed-same, listed-of}
+use Rattle.kit.proofs.Listings.{length-listed, listed-at, listed-same, listed-of, map-listed}
+use Rattle.kit.proofs.Passing.{Rising, passing-nth, passing-rises, passing-items}
 use Rattle.kit.proofs.Ranges.{any-at, any-one, any-hit, number-le}
 use Rattle.stamps.proofs.Laws.{form-some}
 use Rattle.readings.proofs.Orders.{zero-is, zero-of}
@@ -26,7 +27,7 @@ use Rattle.sitefile.proofs.Forms.{Bytes, Lawful, length-joined, joined-
 use Rattle.sitefile.proofs.Frames.{Framed, framed-written, written-framed}
 use Rattle.sitefile.proofs.Rates.{length-entries}
 use Rattle.sitefile.proofs.Taken.{Right, Taken, reading-right, rising-items}
-use Rattle.sitefile.proofs.Tellings.{Rising, passing-placed, passing-rises, passing-items, told-none, told-at, told-passing}
+use Rattle.sitefile.proofs.Tellings.{told-none, told-at, told-passing}
 
 -- ---- items that may be written
 
@@ -69,7 +70,7 @@ module _ (f : Form Entry) (Fit : Entry → Type 0) (law : Lawful f Fit) (narrow 
 
   right-at : (k : ℕ) → k < length (entriesOf stamps values) → (item-at k < 24) × (measured stamps (item-at k) ≡ true) × (wrongReading (getD stamps (item-at k) 0) (getD values (item-at k) (pos 0)) ≡ false)
   right-at k h =
-      let p = passing-placed 24 (measured stamps) k (omega (arith, length-passed)) in
+      let p = passing-nth 24 (measured stamps) k (omega (arith, length-passed)) in
       (p .below, p .passes, item-measured stamps values (item-at k) (p .passes) (right (item-at k) (p .below)))
 
   fits : (k : ℕ) → k < length (entriesOf stamps values) → Fit (getD (entriesOf stamps values) k (entryOf stamps values 0))
@@ -131,11 +132,6 @@ module _ (f : Form Entry) (Fit : Entry → Type 0) (law : Lawful f Fit) (narrow 
       (λ i h. told-back (pos 0) (λ e. e .value) (λ j l m. item-value stamps values j m (right j l)) i h) ∙ sym (listed-of 24 values (pos 0) lv)))
 
 -- ---- a file that was read is written as the same bytes
-
-map-listed : {A B : Type 0} (f : A → B) (n : ℕ) (g : ℕ → A) → map f (listed n g) ≡ listed n (λ i. f (g i))
-unfolding listed
-map-listed f zero g = refl
-map-listed f (suc n) g = ap (λ (l : List _). f (g 0) ∷ l) (map-listed f n (λ i. g (suc i)))
 
 module _ (f : Form Entry) (b : List ℕ) (t : Taken f b) where
   abbrev entry : ℕ → Entry

@@ -1,32 +1,18 @@
 -- Entries and their bytes, whatever an entry holds and however long it is: what is written is read, and what is read is written.
 use mathlib.Core.Path.{_≡_, refl, sym, ap, ap₂, _∙_}
 use mathlib.Core.List.{List, [], _∷_, _++_, append-assoc}
-use Prim.Native.Nat.{ℕ, zero, suc, _+_, _*_, _^_, _≤_, _<_}
-use native.Mathlib.Nat.{not-suc-le-zero, le-of-suc-le-suc, mod-eq-of-lt, mul-zero, mul-suc, add-zero, zero-add, add-comm}
+use Prim.Native.Nat.{ℕ, zero, suc, _+_, _*_, _≤_, _<_}
+use native.Mathlib.Nat.{not-suc-le-zero, le-of-suc-le-suc, mul-zero, mul-suc, add-zero, zero-add, add-comm}
 use native.Mathlib.Omega.{arith}
-use lib.ListN.{length, getD, take, drop, length-append, length-drop}
-use lib.Seq.{drop-at, take-add, drop-drop, getD-drop}
-use Rattle.kit.specs.Bytes.{le, bytesOf, fieldAt}
+use lib.ListN.{length, getD, take, drop, length-append}
+use lib.Seq.{take-add, drop-drop}
 use Rattle.kit.specs.Lists.{listed}
-use Rattle.kit.proofs.Fields.{length-bytes, read-written, written-read, field-in}
 use Rattle.kit.proofs.Listings.{listed-same}
 use Rattle.sitefile.specs.Frame.{Form, joined, entryAt}
 
 -- every element is a byte
 abbrev pub Bytes : List ℕ → Type 0
 Bytes b = (i : ℕ) → getD b i 0 < 256
-
--- ---- a field of n bytes that stands behind p
-
-pub field-read : (n v : ℕ) (p rest b : List ℕ) (at : ℕ) → n ≤ 8 → v < 256 ^ n → length p ≡ at → b ≡ p ++ (bytesOf n v ++ rest) → fieldAt b at n ≡ v
-field-read n v p rest b at few h l e =
-    let long : length b ≡ length p + (n + length rest) = ap length e ∙ simp (length-append, length-bytes) in
-    field-in b at n few (omega arith) ∙ ap (λ (x : List ℕ). le n (drop at x)) e ∙ ap (le n) (drop-at p (bytesOf n v ++ rest) at l)
-    ∙ read-written n v rest ∙ mod-eq-of-lt h
-
-pub field-written : (n at : ℕ) (b : List ℕ) → Bytes b → n ≤ 8 → at + n ≤ length b → bytesOf n (fieldAt b at n) ≡ take n (drop at b)
-field-written n at b h few l =
-    ap (bytesOf n) (field-in b at n few l) ∙ written-read n (drop at b) (λ i. rw getD-drop (h (at + i))) (rw length-drop (omega arith))
 
 -- ---- a form in which an entry that fits is written and read
 

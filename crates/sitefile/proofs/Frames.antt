@@ -8,11 +8,11 @@ use lib.Dec.{lit≤}
 use lib.ListN.{length, take, drop, length-append}
 use lib.Seq.{take-at, take-add, take-all, drop-drop}
 use Rattle.kit.specs.Bytes.{bytesOf, fieldAt}
-use Rattle.kit.proofs.Fields.{length-bytes}
+use Rattle.kit.proofs.Fields.{length-bytes, field-read, field-written}
 use Rattle.fnv.specs.Fnv.{fnvOf}
 use Rattle.fnv.proofs.Laws.{fnv-lt}
 use Rattle.sitefile.specs.Frame.{trailerOf, checked, siteIn, countIn, distanceIn, checkIn}
-use Rattle.sitefile.proofs.Forms.{Bytes, field-read, field-written}
+use Rattle.sitefile.proofs.Forms.{Bytes}
 
 -- b ends in the trailer of n entries of w bytes
 pub record Framed (w site n : ℕ) (b : List ℕ) : Type 0 where

@@ -12,12 +12,12 @@ use mir.Val.{SFits, Fits, ofZ}
 use mir.Facts.{toZ-ofZ, ofZ-toZ, fits-ofZ}
 use Rattle.kit.specs.Bytes.{bytesOf, fieldAt}
 use Rattle.kit.specs.Range.{number, passing}
-use Rattle.kit.proofs.Fields.{length-bytes, field-lt}
-use Rattle.kit.proofs.Ranges.{length-passing}
+use Rattle.kit.proofs.Fields.{length-bytes, field-lt, field-read, field-written}
+use Rattle.kit.proofs.Passing.{length-passing}
 use Rattle.sitefile.specs.Frame.{joined, trailerOf, framed}
 use Rattle.sitefile.specs.Entries.{rateForm, measured, entryOf, entriesOf, fileOf}
 use Rattle.sitefile.specs.declared.Entry.{Entry}
-use Rattle.sitefile.proofs.Forms.{Bytes, Lawful, field-read, field-written, length-joined}
+use Rattle.sitefile.proofs.Forms.{Bytes, Lawful, length-joined}
 use Rattle.sitefile.proofs.Frames.{length-trailer, length-checked}
 
 -- an entry whose numbers fit their fields

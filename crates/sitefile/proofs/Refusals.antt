@@ -7,13 +7,11 @@ use native.Mathlib.Omega.{arith}
 use borrow.Author.Tests.{eq-eqb, ne-eqb, lt-ltb, le-ltb}
 use lib.Dec.{eqb, ltb}
 use lib.IntN.{ℤ}
-use lib.ListN.{length, getD, take}
-use mir.Syntax.{w8, w32}
-use mir.Val.{Fits, SFits, toZ, ofZ}
+use lib.ListN.{length, take}
+use mir.Syntax.{w32}
+use mir.Val.{SFits, toZ, ofZ}
 use mir.Facts.{toZ-ofZ}
 use Rattle.kit.specs.Range.{any}
-use Rattle.kit.specs.Bytes.{fieldAt}
-use Rattle.kit.proofs.Fields.{field-lt}
 use Rattle.fnv.specs.Fnv.{fnvOf}
 use Rattle.stamps.specs.Stamps.{issuedForm}
 use Rattle.readings.specs.Readings.{inRange}
@@ -21,14 +19,6 @@ use Rattle.sitefile.specs.Frame.{entryAt, siteIn, countIn, distanceIn, c
 use Rattle.sitefile.specs.Entries.{rateForm}
 use Rattle.sitefile.specs.Read.{wrongLength, wrongSite, wrongDistance, wrongCheck, wrongReading, rises, wrongEntry, noSiteFile}
 use Rattle.sitefile.specs.declared.Entry.{Entry}
-
--- ---- a field that was read fits its width
-
-pub field-byte : {r : ℕ} (b : List ℕ) (at : ℕ) → ((i : ℕ) → Fits w8 (getD b i 0)) → r ≡ fieldAt b at 1 → Fits w8 r
-field-byte b at h e = record { fits = rw e (field-lt b at 1 (λ i. h i .fits)) }
-
-pub field-word : {r : ℕ} (b : List ℕ) (at : ℕ) → ((i : ℕ) → Fits w8 (getD b i 0)) → r ≡ fieldAt b at 4 → Fits w32 r
-field-word b at h e = record { fits = rw e (field-lt b at 4 (λ i. h i .fits)) }
 
 -- ---- the site of a trailer or of a call
 

@@ -10,6 +10,7 @@ use lib.IntN.{ℤ}
 use lib.ListN.{length, take}
 use Rattle.kit.specs.Range.{any}
 use Rattle.kit.proofs.Bools.{or-left, or-right}
+use Rattle.kit.proofs.Passing.{Rising, rising-of}
 use Rattle.kit.proofs.Ranges.{any-at, none-of}
 use Rattle.stamps.specs.Stamps.{issuedForm}
 use Rattle.readings.specs.Readings.{inRange}
@@ -19,7 +20,6 @@ use Rattle.sitefile.specs.Entries.{rateForm}
 use Rattle.sitefile.specs.Read.{wrongLength, wrongSite, wrongDistance, wrongCheck, wrongReading, rises, wrongEntry, noSiteFile}
 use Rattle.sitefile.specs.declared.Entry.{Entry}
 use Rattle.sitefile.proofs.Frames.{Framed}
-use Rattle.sitefile.proofs.Tellings.{Rising, rising-of}
 
 -- ---- a site, a reading, an entry
 

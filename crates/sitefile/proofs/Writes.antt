@@ -13,15 +13,14 @@ use lib.IntN.{ℤ, pos}
 use lib.ListN.{length, getD, take, drop, length-append}
 use lib.Seq.{take-append-seam, drop-append-add, drop-drop}
 use mir.Syntax.{w32}
-use mir.Val.{Fits, SFits, toZ, ofZ}
+use mir.Val.{SFits, toZ, ofZ}
 use mir.Facts.{toZ-ofZ}
 use Rattle.kit.specs.Bytes.{bytesOf}
 use Rattle.kit.specs.Lists.{put, placed}
-use Rattle.kit.specs.Range.{any, number, one, passing}
+use Rattle.kit.specs.Range.{any, number, passing}
 use Rattle.kit.proofs.Bools.{or-left}
 use Rattle.kit.proofs.Fields.{length-bytes}
-use Rattle.kit.proofs.Loops.{Counted}
-use Rattle.kit.proofs.Puts.{placed-in, put-put, put-none, put-front, length-put, take-put}
+use Rattle.kit.proofs.Puts.{placed-more, placed-three, put-put, put-none, put-front, length-put, take-put}
 use Rattle.readings.specs.Readings.{isZero}
 use Rattle.fnv.specs.Fnv.{fnvOf}
 use Rattle.sitefile.specs.Frame.{joined, trailerOf, checked, framed}
@@ -48,21 +47,7 @@ module _ (stamp : ℕ) (value : ℤ) (f : SFits w32 value) where
   pub item-asked : (r : Bool) → r ≡ wrongItem stamp (toZ w32 (ofZ w32 value)) → r ≡ wrongItem stamp value
   item-asked r e = e ∙ ap (wrongItem stamp) (toZ-ofZ f)
 
--- ---- pieces, one behind the other
-
--- one field more
-placed-more : (d d₁ d₂ : List ℕ) (at p : ℕ) (x y : List ℕ) → d₁ ≡ put d at x → p ≡ at + length x → p + length y ≤ length d → d₂ ≡ placed d₁ p y → d₂ ≡ put d at (x ++ y)
-placed-more d d₁ d₂ at p x y e q h f =
-    let l : length d₁ ≡ length d = ap length e ∙ length-put d at x (omega arith) in
-    f ∙ placed-in d₁ p y (omega arith) ∙ ap (λ (b : List ℕ). put b p y) e ∙ put-put d at p x y q (omega arith)
-
--- three fields
-three-put : (d d₁ d₂ d₃ : List ℕ) (at p q : ℕ) (x y z : List ℕ) → p ≡ at + length x → q ≡ p + length y → q + length z ≤ length d
-    → d₁ ≡ placed d at x → d₂ ≡ placed d₁ p y → d₃ ≡ placed d₂ q z → d₃ ≡ put d at (x ++ (y ++ z))
-three-put d d₁ d₂ d₃ at p q x y z hp hq room e₁ e₂ e₃ =
-    let one : d₁ ≡ put d at x = e₁ ∙ placed-in d at x (omega arith) in
-    let two : d₂ ≡ put d at (x ++ y) = placed-more d d₁ d₂ at p x y one hp (omega arith) e₂ in
-    placed-more d d₂ d₃ at q (x ++ y) z two (omega (arith, length-append x y)) room e₃ ∙ ap (put d at) (append-assoc x y z)
+-- ---- the bytes of an entry, and of the trailer
 
 pub entry-put : (d d₁ d₂ d₃ : List ℕ) (at bits : ℕ) (e : Entry) → at + 10 ≤ length d → SFits w32 (e .value) → bits ≡ ofZ w32 (toZ w32 (ofZ w32 (e .value)))
     → d₁ ≡ placed d at (bytesOf 1 (e .item)) → d₂ ≡ placed d₁ (at + 1) (bytesOf 5 (e .stamp)) → d₃ ≡ placed d₂ (at + 6) (bytesOf 4 bits)
@@ -72,7 +57,7 @@ entry-put d d₁ d₂ d₃ at bits e room f hb e₁ e₂ e₃ =
     let v : ofZ w32 (e .value) ≡ bits = sym (hb ∙ ap (ofZ w32) (toZ-ofZ f)) in
     let lx = length-bytes 1 (e .item) in
     let ly = length-bytes 5 (e .stamp) in
-    rw v (three-put d d₁ d₂ d₃ at (at + 1) (at + 6) _ _ _ (omega arith) (omega arith) (omega (arith, length-bytes 4 bits)) e₁ e₂ e₃)
+    rw v (placed-three d d₁ d₂ d₃ at (at + 1) (at + 6) _ _ _ (omega arith) (omega arith) (omega (arith, length-bytes 4 bits)) e₁ e₂ e₃)
 
 -- the trailer, and the check of all bytes before that
 pub trailer-put : (d d₁ d₂ d₃ d₄ : List ℕ) (at site n check : ℕ) → at + 8 ≤ length d
@@ -85,7 +70,7 @@ trailer-put d d₁ d₂ d₃ d₄ at site n check room e₁ e₂ e₃ ec e₄ =
     let ly = length-bytes 1 n in
     let lz = length-bytes 2 (10 * n) in
     let lt : length t ≡ 4 = simp (length-append, length-bytes) in
-    let three : d₃ ≡ put d at t = three-put d d₁ d₂ d₃ at (at + 1) (at + 2) _ _ _ (omega arith) (omega arith) (omega arith) e₁ e₂ e₃ in
+    let three : d₃ ≡ put d at t = placed-three d d₁ d₂ d₃ at (at + 1) (at + 2) _ _ _ (omega arith) (omega arith) (omega arith) e₁ e₂ e₃ in
     let front : take (at + 4) d₃ ≡ take at d ++ t = ap₂ (λ (k : ℕ) (b : List ℕ). take (at + k) b) (sym lt) three ∙ take-put d at t (omega arith) in
     let c = bytesOf 4 (fnvOf (take at d ++ t)) in
     let check-is : bytesOf 4 check ≡ c = ap (bytesOf 4) (ec ∙ ap fnvOf front) in
@@ -257,11 +242,3 @@ module _ (d : List ℕ) (site : ℕ) (stamps : List ℕ) (values : List ℤ) whe
       → (_≡_ {A = Written} (record { number = 0; length = n }) (fileWritten (length d) site stamps values)) × (d₁ ≡ bufferAfter d site stamps values)
   unfolding fileWritten bufferAfter
   write-done r n d₁ e t h = rw (← e, t) (ap (λ (k : ℕ). record { number = 0; length = k }) (h .0), h .1)
-
--- how many are measured is a small number
-pub count-fits : {p : ℕ → Bool} {i n d : ℕ} (r : Bool) → Counted 24 p i n → i < 24 → d ≡ one r → Fits w32 (n + d)
-count-fits {p} {i} {n} {d} r c h e = record { fits = omega (arith, c .few, one-small r) }
-  where
-    one-small : (b : Bool) → one b ≤ 1
-    one-small true = omega arith
-    one-small false = omega arith

@@ -18,6 +18,7 @@ use Rattle.readings.proofs.Orders.{zero-in-range}
 use Rattle.stamps.proofs.Laws.{well-zero}
 use Rattle.vote.specs.Data.{isOk, isOther, isUnmarked, isDeferred, isOpen, noVote, blankRequest, voteAt}
 use Rattle.vote.specs.Queue.{queuedAt}
+use Rattle.vote.specs.Shape.{ShapedSite}
 use Rattle.vote.specs.Voters.{knows, hasVoter, noneKnown, votersKnown, noKnown, noRow}
 use Rattle.vote.proofs.KnownVoters.{knows-nobody, voters-nobody}
 use Rattle.vote.proofs.Rows.{row-none, nobody-of, unknown-of}
@@ -27,7 +28,7 @@ use Rattle.vote.specs.declared.data.Vote.{Vote}
 use Rattle.table.specs.declared.data.Message.{Message}
 use Rattle.table.specs.Blank.{zeros, zeroValues, blankVote, isBlankRequest, holdsNothing, isBlankSite, isBlankMessage}
 use Rattle.table.specs.Fresh.{blankSite, blankMessage, blankTable, freshFor}
-use Rattle.table.specs.Meaning.{Holding, SoundSite, SoundPlace, SoundMessage, Sound, ShapedSite, ShapedRequest, ShapedMessage, ShapedTable}
+use Rattle.table.specs.Meaning.{Holding, SoundSite, SoundPlace, SoundMessage, Sound, ShapedRequest, ShapedMessage, ShapedTable}
 use Rattle.table.specs.Places.{noSite, noMessage, siteAt, messageAt, placeAt, markAt, verdictAt}
 use Rattle.table.specs.Sound.{queueExact, timesQueued, backed, countRight, soundTable}
 use Rattle.table.proofs.Meaning.{meant}

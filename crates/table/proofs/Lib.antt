@@ -1,6 +1,10 @@
 -- What the proofs of `table` cite.
 mod Fills
 mod Chains
+pub mod Places
+pub mod Nothing
+pub mod Queues
+pub mod Backing
 pub mod Meaning
 pub mod Same
 pub mod FreshSound

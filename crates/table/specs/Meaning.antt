@@ -12,9 +12,9 @@ use Rattle.readings.specs.Readings.{inRange}
 use Rattle.stamps.specs.Stamps.{timeOf, issuedForm, wellFormed}
 use Rattle.vote.specs.Data.{isOk, isOther, isUnmarked, isDeferred, isOpen}
 use Rattle.vote.specs.Queue.{queuedAt}
+use Rattle.vote.specs.Shape.{ShapedSite}
 use Rattle.vote.specs.Voters.{knows, hasVoter, noneKnown, votersKnown}
 use Rattle.vote.specs.declared.data.Request.{Request}
-use Rattle.vote.specs.declared.data.Site.{Site}
 use Rattle.table.specs.Blank.{isBlankRequest, holdsNothing, isBlankSite, isBlankMessage}
 use Rattle.table.specs.Places.{siteAt, messageAt, placeAt, markAt, verdictAt, lastOf}
 use Rattle.table.specs.Sound.{requestAllowed, queueExact, marksOk, marksOther, backed}
@@ -22,14 +22,6 @@ use Rattle.table.specs.declared.data.Message.{Message}
 use Rattle.table.specs.declared.data.Table.{Table}
 
 -- ---- the lengths of the lists, which every table in memory has
-
-pub record ShapedSite (s : Site) : Type 0 where
-  pub stamps : length (s .stamps) ≡ 24
-  pub values : length (s .values) ≡ 24
-  pub queue : length (s .queue) ≡ 16
-  pub votes : length (s .votes) ≡ 16
-  pub oks : length (s .oks) ≡ 112
-  pub others : length (s .others) ≡ 112
 
 pub record ShapedRequest (q : Request) : Type 0 where
   pub stamps : length (q .stamps) ≡ 24

@@ -7,34 +7,33 @@ use lib.Dec.{eqb}
 use lib.ListN.{length}
 use Rattle.kit.proofs.Bools.{by-test, of-cond, and-right}
 use Rattle.ledger.proofs.Link.{goes-stay, goes-then}
-use Rattle.table.specs.Meaning.{ShapedSite}
 use Rattle.table.specs.Places.{placeAt, withSite}
 use Rattle.table.specs.Sound.{marksOk, marksOther, backed}
 use Rattle.table.specs.declared.data.Table.{Table}
+use Rattle.table.proofs.Backing.{Known, due-backed}
 use Rattle.vote.specs.Consider.{markOf, defers}
-use Rattle.vote.specs.Data.{isOk, isOther, isOpen, isUnmarked, requestIn, voteAt, withKnown}
+use Rattle.vote.specs.Data.{isOk, isOther, isOpen, isUnmarked, requestIn, voteAt}
+use Rattle.vote.specs.Shape.{ShapedSite}
 use Rattle.vote.specs.Verdicts.{verdictDue, ruled}
 use Rattle.vote.specs.Voters.{knows, hasVoter, joinVoters}
 use Rattle.vote.specs.Voting.{voted}
 use Rattle.vote.specs.declared.data.Site.{Site}
 use Rattle.vote.specs.declared.data.Verdict.{Verdict}
-use Rattle.vote.proofs.KnownVoters.{knows-joined-row, length-joinVoters}
-use Rattle.vote.proofs.Shapes.{voted-shape}
+use Rattle.vote.proofs.KnownVoters.{knows-joined-row}
+use Rattle.vote.proofs.MarkKinds.{unmarked-no-vote, vote-kind}
+use Rattle.vote.proofs.Shapes.{voted-shape, shaped-as, joined-shape}
 use Rattle.walk.specs.Hearing.{settled, outcomeOf, takenUp, heard, received}
 use Rattle.walk.specs.Walking.{Out, resolved}
+use Rattle.walk.proofs.HearingInductions.{joinedOn}
 use Rattle.walk.proofs.Inductions.{Keeps}
 use Rattle.tied.specs.Events.{eventsOf}
-use Rattle.tied.proofs.Rulings.{due-backed, rule-goes}
+use Rattle.tied.proofs.Rulings.{rule-goes}
 use Rattle.tied.proofs.Silences.{mute-deferred, mute-known, mute-goes, mute-then}
-use Rattle.tied.proofs.Standing.{Known, HeldOpen, unmarked-none}
-use Rattle.tied.proofs.Votes.{mark-stays, vote-goes, vote-kind, voted-casts, known-cast}
-use Rattle.tied.proofs.Walks.{Ready, Stands, Seat, Went, shaped-as, open-marked, walked-goes}
+use Rattle.tied.proofs.Standing.{HeldOpen}
+use Rattle.tied.proofs.Votes.{mark-stays, vote-goes, voted-casts, known-cast}
+use Rattle.tied.proofs.Walks.{Ready, Stands, Seat, Went, open-marked, walked-goes}
 
 -- ---- voters heard of are joined to those known
-
--- the site after that
-abbrev pub joinedAt : Site → ℕ → List Bool → List Bool → Site
-joinedAt s p oks others = withKnown (joinVoters (s .oks) p oks) (joinVoters (s .others) p others) s
 
 -- the voters told of have voted, in the table t
 pub record SentVoters (t : Table) (p : ℕ) (oks others : List Bool) : Type 0 where
@@ -49,21 +48,11 @@ known-joined known p row u l h hu e was new =
     (λ n. new (and-right (eqb p p) (hasVoter row u) (sym (rw n at (knows-joined-row known p row p u l h h hu)) ∙ e)))
 
 module _ (t : Table) (k : ℕ) (z : Seat t k) (s : Site) (g : ShapedSite s) (p : ℕ) (oks others : List Bool) where
-  joined-shape : ShapedSite (joinedAt s p oks others)
-  joined-shape = record {
-    stamps = g .stamps;
-    values = g .values;
-    queue = g .queue;
-    votes = g .votes;
-    oks = length-joinVoters (s .oks) p oks ∙ g .oks;
-    others = length-joinVoters (s .others) p others ∙ g .others;
-  }
-
-  joined-known : p < 16 → Known (withSite k s t) p s → SentVoters (withSite k s t) p oks others → Known (withSite k (joinedAt s p oks others) t) p (joinedAt s p oks others)
+  joined-known : p < 16 → Known (withSite k s t) p s → SentVoters (withSite k s t) p oks others → Known (withSite k (joinedOn s p oks others) t) p (joinedOn s p oks others)
   joined-known h y w = record {
-    oks = λ u l e. mark-stays t k (z .listed) s (joinedAt s p oks others) p isOk (λ m. m) u
+    oks = λ u l e. mark-stays t k (z .listed) s (joinedOn s p oks others) p isOk (λ m. m) u
         (known-joined (s .oks) p oks u (g .oks) h l e (y .oks u l) (w .ok u l));
-    others = λ u l e. mark-stays t k (z .listed) s (joinedAt s p oks others) p isOther (λ m. m) u
+    others = λ u l e. mark-stays t k (z .listed) s (joinedOn s p oks others) p isOther (λ m. m) u
         (known-joined (s .others) p others u (g .others) h l e (y .others u l) (w .other u l));
   }
 
@@ -123,26 +112,26 @@ module _ (t : Table) (k : ℕ) (z : Seat t k) {P : Site → Type 0} (stands : (s
   module _ (oks others : List Bool) where
     -- what a verdict that falls must leave: one that the voters told of bring, and one that the vote then brings
     pub record Upheld (s : Site) : Type 0 where
-      pub learns : isOpen (dueFor (joinedAt s p oks others)) ≡ false → P (ruledFor (joinedAt s p oks others) (dueFor (joinedAt s p oks others)))
-      pub votes : isUnmarked (voteAt (s .votes) p .mark) ≡ true → defers (outcomeOf k (t .count) (t .requests) (joinedAt s p oks others) p) ≡ false
-          → isOpen (dueFor (votedFor (joinedAt s p oks others))) ≡ false
-          → P (ruledFor (votedFor (joinedAt s p oks others)) (dueFor (votedFor (joinedAt s p oks others))))
+      pub learns : isOpen (dueFor (joinedOn s p oks others)) ≡ false → P (ruledFor (joinedOn s p oks others) (dueFor (joinedOn s p oks others)))
+      pub votes : isUnmarked (voteAt (s .votes) p .mark) ≡ true → defers (outcomeOf k (t .count) (t .requests) (joinedOn s p oks others) p) ≡ false
+          → isOpen (dueFor (votedFor (joinedOn s p oks others))) ≡ false
+          → P (ruledFor (votedFor (joinedOn s p oks others)) (dueFor (votedFor (joinedOn s p oks others))))
 
     pub heard-goes
         : (s : Site) → ShapedSite s → HeldOpen t p s → Known (withSite k s t) p s → SentVoters (withSite k s t) p oks others → Upheld s
         → Leads s (heard k (t .count) (t .requests) s p oks others)
     unfolding heard eventsOf
     heard-goes s g o y w x =
-        let j = joinedAt s p oks others in
+        let j = joinedOn s p oks others in
         let mute = mute-known s (joinVoters (s .oks) p oks) (joinVoters (s .others) p others) in
-        let shape = joined-shape t k z s g p oks others in
+        let shape = shaped-as (joined-shape s p oks others) g in
         let known = joined-known t k z s g p oks others (o .below) y w in
         let open-at : HeldOpen t p j = record { below = o .below; used = o .used; unruled = o .unruled } in
         of-cond (Leads s) (isOpen (dueFor j))
         (λ e. of-cond (Leads s) (isUnmarked (voteAt (s .votes) p .mark))
         (λ m. record {
           goes = mute-then t k (z .listed) (z .of-table) mute
-              (taken-goes j shape (record { open-at = open-at; none = unmarked-none (voteAt (s .votes) p .mark) m; known = known }) (x .votes m) .goes);
+              (taken-goes j shape (record { open-at = open-at; none = unmarked-no-vote (voteAt (s .votes) p .mark) m; known = known }) (x .votes m) .goes);
         })
         (λ m. record { goes = mute-goes t k (z .listed) (z .of-table) mute }))
         (λ e. record {

@@ -1,41 +1,39 @@
 -- A site rules on a request: it accepts or rejects it, with as many own marks behind it as document 01 asks.
-use Prim.Native.Nat.{ℕ, zero, suc, _+_, _-_, _≤_, _<_}
+use Prim.Native.Nat.{ℕ, _≤_, _<_}
 use mathlib.Core.Bool.{Bool, true, false, cond}
 use mathlib.Core.Path.{_≡_, refl, sym, ap, subst, _∙_}
 use native.Mathlib.Omega.{arith}
-use borrow.Author.Tests.{lt-ltb, le-ltb, le-leb, leb-true}
+use borrow.Author.Tests.{lt-ltb, le-ltb, leb-true}
 use lib.IntN.{ℤ, pos}
 use lib.ListN.{length, getD, List·getD-eq-default}
 use Rattle.kit.specs.Range.{number}
 use Rattle.kit.proofs.Bools.{clash, by-lt, by-eq}
-use Rattle.kit.proofs.Ranges.{number-suc, number-grows}
+use Rattle.kit.proofs.Counts.{number-gap}
 use Rattle.ledger.specs.Ledger.{Reading, reading, writes, written}
 use Rattle.ledger.specs.View.{Word, votes-ok, votes-against, accepts, rejects, copyAfter, Enough, Says, Goes}
 use Rattle.ledger.proofs.Link.{goes-says}
 use Rattle.majority.specs.Majority.{majority, blocking}
-use Rattle.table.specs.Meaning.{ShapedSite}
 use Rattle.table.specs.Places.{placeAt, markAt, withSite}
 use Rattle.table.specs.Sound.{marksOk, marksOther, backed}
 use Rattle.table.specs.declared.data.Table.{Table}
+use Rattle.table.proofs.Places.{site-other}
 use Rattle.vote.specs.Data.{isOk, isOther, isOpen, requestIn, voteAt}
-use Rattle.vote.specs.Verdicts.{verdictDue, writesItem, writtenSite, ruled}
-use Rattle.vote.specs.Voters.{votersKnown, knows}
+use Rattle.vote.specs.Shape.{ShapedSite}
+use Rattle.vote.specs.Verdicts.{writesItem, writtenSite, ruled}
 use Rattle.vote.specs.declared.data.Mark.{Mark}
-use Rattle.vote.specs.declared.data.Mark.the-variants as mark
 use Rattle.vote.specs.declared.data.Request.{Request}
 use Rattle.vote.specs.declared.data.Site.{Site}
 use Rattle.vote.specs.declared.data.Verdict.{Verdict}
 use Rattle.vote.specs.declared.data.Verdict.the-variants as verdict
 use Rattle.vote.proofs.After.{ruled-accepted, ruled-other}
 use Rattle.vote.proofs.Fields.{ruled-keeps}
-use Rattle.vote.proofs.KnownVoters.{voters-number}
+use Rattle.vote.proofs.MarkKinds.{NoVote, open-is, request-in, after-ok, after-other}
 use Rattle.vote.proofs.Said.{markAfter, ruled-says}
-use Rattle.vote.proofs.VerdictsDue.{accepted-due, rejected-due}
 use Rattle.vote.proofs.Writes.{written-stamp, written-value, length-written-stamps, length-written-values}
 use Rattle.tied.specs.Events.{ruleEvent}
 use Rattle.tied.specs.Views.{requestOf, saysOf, readingAt, viewOf}
-use Rattle.tied.proofs.Sites.{Speaks, site-else, site-says}
-use Rattle.tied.proofs.Standing.{NoVote, Known, Unvoiced, HeldOpen, open-is, request-in}
+use Rattle.tied.proofs.Sites.{Speaks, site-says}
+use Rattle.tied.proofs.Standing.{Unvoiced, HeldOpen}
 use Rattle.tied.proofs.Votes.{held-of, reading-same}
 
 -- ---- the copy that an acceptance leaves is the ledger's
@@ -70,21 +68,6 @@ module _ (s : Site) (q : Request) (g : ShapedSite s) where
       ∙ sym (List·getD-eq-default (s .values) (pos 0) (rw (g .values) h)))))
 
 -- ---- told of the site alone
-
--- the mark that a verdict leaves says what it said
-after-ok : (m : Mark) → isOk (markAfter m) ≡ isOk m
-after-ok mark.None = refl
-after-ok mark.Deferred = refl
-after-ok mark.Ok = refl
-after-ok mark.Dr = refl
-after-ok mark.Rej = refl
-
-after-other : (m : Mark) → isOther (markAfter m) ≡ isOther m
-after-other mark.None = refl
-after-other mark.Deferred = refl
-after-other mark.Ok = refl
-after-other mark.Dr = refl
-after-other mark.Rej = refl
 
 -- the verdict d says w where none was
 record Decides (w : Word) (d : Verdict) : Type 0 where
@@ -137,20 +120,10 @@ module _ (s : Site) (q : Request) (p : ℕ) (g : ShapedSite s) (h : p < 16) (unr
 
 -- ---- enough own marks
 
--- how many of n pass, where none from n to m does
-number-cut : (f : ℕ → Bool) (n m : ℕ) → ((u : ℕ) → n ≤ u → u < n + m → f u ≡ false) → number (n + m) f ≡ number n f
-number-cut f n zero h = ap (λ (j : ℕ). number j f) (omega arith)
-number-cut f n (suc m) h =
-    let c : number (n + m) f ≡ number n f = number-cut f n m (λ u a b. h u a (omega arith)) in
-    let e : n + suc m ≡ suc (n + m) = omega arith in
-    rw (e, number-suc (n + m) f, h (n + m) (omega arith) (omega arith), c) (omega arith)
-
 module _ (t : Table) (p : ℕ) (few : t .count ≤ 7) (u : Unvoiced t p) where
   -- the marks of all seven are those of the table's sites
   own-marks : (kind : Mark → Bool) → ((m : Mark) → NoVote m → kind m ≡ false) → number 7 (λ k. kind (markAt t k p)) ≡ number (t .count) (λ k. kind (markAt t k p))
-  own-marks kind none =
-      let e : t .count + (7 - t .count) ≡ 7 = omega arith in
-      rw e at (number-cut (λ k. kind (markAt t k p)) (t .count) (7 - t .count) (λ k a b. none (markAt t k p) (u .none k a (omega arith))))
+  own-marks kind none = number-gap (λ k. kind (markAt t k p)) (t .count) 7 few (λ k a b. none (markAt t k p) (u .none k a b))
 
   pub enough-oks : backed t p verdict.Accepted ≡ true → Enough (t .count) (majority (t .count)) (viewOf t) votes-ok p
   unfolding viewOf
@@ -168,32 +141,13 @@ module _ (t : Table) (p : ℕ) (few : t .count ≤ 7) (u : Unvoiced t p) where
     did = λ k l e. e;
   }
 
--- a verdict that is due is backed by the voters known
-pub due-backed : (t : Table) (p : ℕ) (s : Site) → Known t p s → backed t p (verdictDue (t .count) (s .oks) (s .others) p) ≡ true
-due-backed t p s h = go (verdictDue (t .count) (s .oks) (s .others) p) refl
-  where
-    oks : votersKnown (s .oks) p ≤ number 7 (marksOk t p)
-    oks = rw (voters-number (s .oks) p) (number-grows 7 (knows (s .oks) p) (marksOk t p) (h .oks))
-
-    others : votersKnown (s .others) p ≤ number 7 (marksOther t p)
-    others = rw (voters-number (s .others) p) (number-grows 7 (knows (s .others) p) (marksOther t p) (h .others))
-
-    go : (d : Verdict) → verdictDue (t .count) (s .oks) (s .others) p ≡ d → backed t p d ≡ true
-    go verdict.Open e = refl
-    go verdict.Accepted e =
-        let a = accepted-due (t .count) (s .oks) (s .others) p e in
-        le-leb (majority (t .count)) (number 7 (marksOk t p)) (omega (arith, oks))
-    go verdict.Rejected e =
-        let a = rejected-due (t .count) (s .oks) (s .others) p e .1 in
-        le-leb (blocking (t .count)) (number 7 (marksOther t p)) (omega (arith, others))
-
 -- ---- in the table
 
 module _ (t : Table) (k : ℕ) (fits : k < length (t .sites)) (on : k < t .count) (few : t .count ≤ 7) (s : Site) (g : ShapedSite s) (p : ℕ) (o : HeldOpen t p s) (u : Unvoiced t p) where
   -- the sites that are not used are those of t, whatever the site k is
   unvoiced-still : Unvoiced (withSite k s t) p
   unvoiced-still = record {
-    none = λ j a b. subst (λ (x : Site). NoVote (voteAt (x .votes) p .mark)) (sym (site-else t k fits s j (λ e. let z : ⊥ = omega arith in z))) (u .none j a b);
+    none = λ j a b. subst (λ (x : Site). NoVote (voteAt (x .votes) p .mark)) (sym (site-other t k s j (λ e. let z : ⊥ = omega arith in z))) (u .none j a b);
   }
 
   pub accept-says : backed (withSite k s t) p verdict.Accepted ≡ true

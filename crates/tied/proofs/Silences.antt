@@ -10,21 +10,21 @@ use Rattle.kit.proofs.Bools.{by-eq}
 use Rattle.ledger.specs.Ledger.{History}
 use Rattle.ledger.specs.View.{Word, votes-ok, votes-against, accepts, rejects, View, quiet, Goes}
 use Rattle.ledger.proofs.Link.{goes-stay, goes-quiet}
-use Rattle.table.specs.Meaning.{ShapedSite}
 use Rattle.table.specs.Places.{withSite, withMessage}
 use Rattle.table.specs.declared.data.Message.{Message}
 use Rattle.table.specs.declared.data.Table.{Table}
 use Rattle.vote.specs.Data.{voteAt, withQueue, withKnown, withLast, withUp}
+use Rattle.vote.specs.Shape.{ShapedSite}
 use Rattle.vote.specs.Voting.{withMark, deferred}
 use Rattle.vote.specs.declared.data.Mark.{Mark}
 use Rattle.vote.specs.declared.data.Mark.the-variants as mark
 use Rattle.vote.specs.declared.data.Site.{Site}
 use Rattle.vote.specs.declared.data.Vote.{Vote}
 use Rattle.vote.proofs.Fields.{deferred-keeps}
+use Rattle.vote.proofs.MarkKinds.{NoVote}
 use Rattle.vote.proofs.Said.{deferred-says}
 use Rattle.tied.specs.Views.{saysOf, viewOf}
 use Rattle.tied.proofs.Sites.{Mute, site-quiet}
-use Rattle.tied.proofs.Standing.{NoVote}
 use Rattle.tied.proofs.Votes.{SetsMark, reading-same}
 
 -- a mark that is no vote in the place of another says nothing

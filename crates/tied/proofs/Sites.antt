@@ -1,20 +1,20 @@
--- One site of a table changed: two laws that serve every field, and from what is shown of that site alone to what the table shows.
+-- One site of a table changed: from what is shown of that site alone to what the table shows.
 use Prim.Native.Nat.{ℕ, _-_, _≤_, _<_}
 use mathlib.Core.Bool.{true}
 use mathlib.Core.Logic.{inl}
 use mathlib.Core.Path.{_≡_, refl, sym, ap, _∙_}
 use native.Mathlib.Omega.{arith}
-use borrow.Author.Tests.{eq-eqb, ne-eqb, le-leb, leb-true}
+use borrow.Author.Tests.{eq-eqb, ne-eqb}
 use lib.Dec.{leb}
 use lib.IntN.{ℤ}
 use lib.ListN.{length}
-use lib.Seq.{getD-set-same, getD-set-other, set-getD}
-use Rattle.kit.proofs.Bools.{by-eq}
+use Rattle.kit.proofs.Bools.{by-eq, up-to}
 use Rattle.ledger.specs.Ledger.{Reading, Request as LedgerRequest}
 use Rattle.ledger.specs.View.{Word, votes-ok, votes-against, accepts, rejects, copyAfter, Quiet, Can, Says}
 use Rattle.stamps.specs.Stamps.{timeOf, digitOf}
-use Rattle.table.specs.Places.{noSite, siteAt, placeAt, withSites, withSite}
+use Rattle.table.specs.Places.{siteAt, placeAt, withSite}
 use Rattle.table.specs.declared.data.Table.{Table}
+use Rattle.table.proofs.Places.{site-same, site-other, each-site}
 use Rattle.vote.specs.Data.{voteAt}
 use Rattle.vote.specs.declared.data.Site.{Site}
 use Rattle.tied.specs.Views.{requestOf, saysOf, readingAt, viewOf}
@@ -34,10 +34,6 @@ pub record Mute (s s′ : Site) : Type 0 where
   pub copy : (i : ℕ) → readingAt s′ i ≡ readingAt s i
   pub last : s .last ≤ s′ .last
 
--- a number up to a is up to a larger b
-pub up-to : (x a b : ℕ) → a ≤ b → leb x a ≡ true → leb x b ≡ true
-up-to x a b h e = let l : x ≤ a = leb-true x a e in le-leb x b (omega arith)
-
 -- ---- copies: at the site itself, whatever its number, and at the others
 
 copy-here : (w : Word) (c : ℕ → ℕ → Reading ℤ) (k : ℕ) (r : LedgerRequest ℤ) (i : ℕ) → copyAfter w (λ (u : ℕ). c k) 0 r 0 i ≡ copyAfter w c k r k i
@@ -54,25 +50,11 @@ copy-else rejects c k r u i ne = refl
 
 -- ---- in the table
 
--- a site put back changes nothing
-pub site-back : (t : Table) (k : ℕ) → withSite k (siteAt t k) t ≡ t
-site-back t k = ap (λ (l : _). withSites l t) (set-getD (t .sites) k noSite)
-
 module _ (t : Table) (k : ℕ) (fits : k < length (t .sites)) where
-  pub site-here : (s : Site) → siteAt (withSite k s t) k ≡ s
-  site-here s = getD-set-same (t .sites) k s noSite fits
-
-  pub site-else : (s : Site) (u : ℕ) → (u ≡ k → ⊥) → siteAt (withSite k s t) u ≡ siteAt t u
-  site-else s u ne = getD-set-other (t .sites) k u s noSite ne
-
   -- what the change leaves at k it leaves at every site
   pub site-kept : {A : Type 0} (f : Site → A) (s s′ : Site) → f s′ ≡ f s → (u : ℕ) → f (siteAt (withSite k s′ t) u) ≡ f (siteAt (withSite k s t) u)
   site-kept f s s′ e u =
-      by-eq u k (λ g. rw (g, site-here s′, site-here s) e) (λ ne. rw (site-else s′ u ne, site-else s u ne))
-
-  -- two facts about k and the rest make one about every site
-  pub by-site : (P : ℕ → Site → Type 0) (s : Site) → P k s → ((u : ℕ) → (u ≡ k → ⊥) → P u (siteAt t u)) → (u : ℕ) → P u (siteAt (withSite k s t) u)
-  by-site P s h r u = by-eq u k (λ g. rw (g, site-here s) h) (λ ne. rw (site-else s u ne) (r u ne))
+      by-eq u k (λ g. rw (g, site-same t k s′ fits, site-same t k s fits) e) (λ ne. rw (site-other t k s′ u ne, site-other t k s u ne))
 
   module _ (on : k < t .count) (s s′ : Site) where
     pub site-says
@@ -83,16 +65,16 @@ module _ (t : Table) (k : ℕ) (fits : k < length (t .sites)) where
       site = on;
       there = held;
       can = can;
-      now = rw (site-here s′) (y .now);
+      now = rw (site-same t k s′ fits) (y .now);
       same = λ q. record { held = refl; request = λ e. refl };
-      says = λ l u q ne h e. by-site
-          (λ j x. (l ≡ w → j ≡ k → q ≡ p → ⊥) → saysOf l (voteAt (x .votes) q) ≡ saysOf l (voteAt (siteAt (withSite k s t) j .votes) q)) s′
-          (λ f. rw (site-here s) (y .rest l q (λ g. f g refl))) (λ j nj f. rw (site-else s j nj)) u ne;
-      copies = λ u i h. by-site (λ j x. readingAt x i ≡ copyAfter w (λ v. readingAt (siteAt (withSite k s t) v)) k (requestOf (placeAt t p)) j i) s′
-          (y .copy i ∙ ap (λ (x : Site). copyAfter w (λ (v : ℕ). readingAt x) 0 (requestOf (placeAt t p)) 0 i) (sym (site-here s))
+      says = λ l u q ne h e. each-site
+          (λ j x. (l ≡ w → j ≡ k → q ≡ p → ⊥) → saysOf l (voteAt (x .votes) q) ≡ saysOf l (voteAt (siteAt (withSite k s t) j .votes) q)) t k s′ u fits
+          (λ f. rw (site-same t k s fits) (y .rest l q (λ g. f g refl))) (λ nu f. rw (site-other t k s u nu)) ne;
+      copies = λ u i h. each-site (λ j x. readingAt x i ≡ copyAfter w (λ v. readingAt (siteAt (withSite k s t) v)) k (requestOf (placeAt t p)) j i) t k s′ u fits
+          (y .copy i ∙ ap (λ (x : Site). copyAfter w (λ (v : ℕ). readingAt x) 0 (requestOf (placeAt t p)) 0 i) (sym (site-same t k s fits))
           ∙ copy-here w (λ v. readingAt (siteAt (withSite k s t) v)) k (requestOf (placeAt t p)) i)
-          (λ j nj. ap (λ (x : Site). readingAt x i) (sym (site-else s j nj))
-          ∙ copy-else w (λ v. readingAt (siteAt (withSite k s t) v)) k (requestOf (placeAt t p)) j i nj) u;
+          (λ nu. ap (λ (x : Site). readingAt x i) (sym (site-other t k s u nu))
+          ∙ copy-else w (λ v. readingAt (siteAt (withSite k s t) v)) k (requestOf (placeAt t p)) u i nu);
       given = λ j e. ap (leb (timeOf j)) (site-kept (λ x. x .last) s s′ (y .last) (digitOf j - 1)) ∙ e;
     }
 
@@ -106,4 +88,4 @@ module _ (t : Table) (k : ℕ) (fits : k < length (t .sites)) where
     }
       where
         lasts : (u : ℕ) → siteAt (withSite k s t) u .last ≤ siteAt (withSite k s′ t) u .last
-        lasts = by-site (λ j x. siteAt (withSite k s t) j .last ≤ x .last) s′ (rw (site-here s) (m .last)) (λ j nj. rw (site-else s j nj) (omega arith))
+        lasts u = each-site (λ j x. siteAt (withSite k s t) j .last ≤ x .last) t k s′ u fits (rw (site-same t k s fits) (m .last)) (λ nu. rw (site-other t k s u nu) (omega arith))

@@ -1,5 +1,5 @@
 -- A request begins, a request is retired, a table is fresh: what the table then shows.
-use Prim.Native.Nat.{ℕ, zero, suc, _-_, _^_, _≤_, _<_}
+use Prim.Native.Nat.{ℕ, suc, _-_, _^_, _≤_, _<_}
 use mathlib.Core.Bool.{true, false, not, _&&_, and-false}
 use mathlib.Core.List.{List, [], _∷_}
 use mathlib.Core.Logic.{_⊎_, inl, inr}
@@ -8,12 +8,12 @@ use native.Mathlib.Omega.{arith}
 use borrow.Author.Tests.{lt-ltb, le-ltb, lt-leb, le-leb, ne-eqb, eqb-false, not-true}
 use lib.Dec.{eqb, leb, ltb}
 use lib.IntN.{pos}
-use lib.ListN.{length, getD, replicate, getD-replicate}
+use lib.ListN.{length, getD, getD-replicate}
 use lib.Seq.{getD-set-same, getD-set-other}
 use Rattle.kit.specs.Lists.{listed, changed}
-use Rattle.kit.proofs.Bools.{clash, and-left, and-right, by-eq, by-lt}
+use Rattle.kit.proofs.Bools.{clash, and-left, and-right, by-eq, by-lt, up-to}
 use Rattle.kit.proofs.Changes.{changed-at}
-use Rattle.kit.proofs.Listings.{listed-at}
+use Rattle.kit.proofs.Listings.{listed-at, replicate-at}
 use Rattle.ledger.specs.Ledger.{begin, Proper, blank}
 use Rattle.ledger.specs.View.{Word, votes-ok, votes-against, accepts, rejects, Judged, Stays, Begins, Quiet, Goes, Tied}
 use Rattle.ledger.proofs.Link.{goes-quiet, goes-begins, tied-fresh}
@@ -28,14 +28,14 @@ use Rattle.table.specs.Meaning.{ShapedTable, Sound}
 use Rattle.table.specs.Places.{noSite, siteAt, placeAt, verdictAt, lastOf, withSites, withSite, withRequest}
 use Rattle.table.specs.Sound.{setsAllowed}
 use Rattle.table.specs.declared.data.Table.{Table}
+use Rattle.table.proofs.Nothing.{Nothing, nothing-means}
+use Rattle.table.proofs.Places.{site-same, site-other, each-site}
 use Rattle.vote.specs.Data.{isOpen, noRequest, blankRequest, voteAt, withLast}
 use Rattle.vote.specs.declared.data.Request.{Request}
 use Rattle.vote.specs.declared.data.Site.{Site}
 use Rattle.vote.proofs.After.{CopiesOf}
+use Rattle.vote.proofs.MarkKinds.{unmarked-no-vote, open-is}
 use Rattle.tied.specs.Views.{requestOf, saysOf, readingAt, viewOf}
-use Rattle.tied.proofs.Sites.{up-to, site-here, site-else, by-site}
-use Rattle.tied.proofs.Soundly.{SaysNothing, nothing-said}
-use Rattle.tied.proofs.Standing.{unmarked-none, open-is}
 use Rattle.tied.proofs.Votes.{judged-by, reading-same}
 use Rattle.tied.proofs.Words.{has-below, has-member, has-of, items-in, sets-items}
 
@@ -75,7 +75,7 @@ pub record Enters (t : Table) (k p last : ℕ) (q : Request) : Type 0 where
   pub room : p < length (t .requests)
   pub below : p < 16
   pub free : placeAt t p .stamp ≡ 0
-  pub silent : (u : ℕ) → u < t .count → SaysNothing (siteAt t u) p
+  pub silent : (u : ℕ) → u < t .count → Nothing (siteAt t u) p
   pub digit : digitOf (q .stamp) ≡ suc k
   pub later : siteAt t k .last < timeOf (q .stamp)
   pub until : timeOf (q .stamp) ≤ last
@@ -86,9 +86,9 @@ abbrev pub enteredAt : Table → ℕ → ℕ → ℕ → Request → Table
 enteredAt t k p last q = withRequest p q (withSite k (withLast last (siteAt t k)) t)
 
 -- nothing said says nothing
-silent-says : (w : Word) (s : Site) (p : ℕ) → SaysNothing s p → saysOf w (voteAt (s .votes) p) ≡ false
-silent-says votes-ok s p n = unmarked-none (voteAt (s .votes) p .mark) (n .unmarked) .no-ok
-silent-says votes-against s p n = unmarked-none (voteAt (s .votes) p .mark) (n .unmarked) .no-other
+silent-says : (w : Word) (s : Site) (p : ℕ) → Nothing s p → saysOf w (voteAt (s .votes) p) ≡ false
+silent-says votes-ok s p n = unmarked-no-vote (voteAt (s .votes) p .mark) (n .unmarked) .no-ok
+silent-says votes-against s p n = unmarked-no-vote (voteAt (s .votes) p .mark) (n .unmarked) .no-other
 silent-says accepts s p n = rw (open-is (voteAt (s .votes) p .verdict) (n .unruled))
 silent-says rejects s p n = rw (open-is (voteAt (s .votes) p .verdict) (n .unruled))
 
@@ -104,11 +104,11 @@ module _ (t : Table) (k p last : ℕ) (q : Request) (a : Enters t k p last q) wh
 
   -- every site but k is as it was, and k has only its last t moved on
   site-still : {A : Type 0} (f : Site → A) → f (withLast last (siteAt t k)) ≡ f (siteAt t k) → (u : ℕ) → f (siteAt (enteredAt t k p last q) u) ≡ f (siteAt t u)
-  site-still f e u = by-eq u k (λ g. rw (g, site-here t k (a .listed) (withLast last (siteAt t k))) e)
-      (λ ne. ap f (site-else t k (a .listed) (withLast last (siteAt t k)) u ne))
+  site-still f e u = by-eq u k (λ g. rw (g, site-same t k (withLast last (siteAt t k)) (a .listed)) e)
+      (λ ne. ap f (site-other t k (withLast last (siteAt t k)) u ne))
 
   lasts : (u : ℕ) → siteAt t u .last ≤ siteAt (enteredAt t k p last q) u .last
-  lasts = by-site t k (a .listed) (λ j x. siteAt t j .last ≤ x .last) (withLast last (siteAt t k)) (let h = a .later in let u = a .until in omega arith) (λ j ne. omega arith)
+  lasts u = each-site (λ j x. siteAt t j .last ≤ x .last) t k (withLast last (siteAt t k)) u (a .listed) (let h = a .later in let l = a .until in omega arith) (λ ne. omega arith)
 
   -- the stamp was not given before, and is given now
   not-yet : lastOf t (q .stamp) < timeOf (q .stamp)
@@ -117,7 +117,7 @@ module _ (t : Table) (k p last : ℕ) (q : Request) (a : Enters t k p last q) wh
   by-now : timeOf (q .stamp) ≤ lastOf (enteredAt t k p last q) (q .stamp)
   by-now =
       let e : lastOf (enteredAt t k p last q) (q .stamp) ≡ last =
-      ap (λ (j : ℕ). siteAt (enteredAt t k p last q) j .last) place ∙ ap (λ (x : Site). x .last) (site-here t k (a .listed) (withLast last (siteAt t k))) in
+      ap (λ (j : ℕ). siteAt (enteredAt t k p last q) j .last) place ∙ ap (λ (x : Site). x .last) (site-same t k (withLast last (siteAt t k)) (a .listed)) in
       let u = a .until in omega arith
 
   pub begins-at : Begins (t .count) p (viewOf t) (viewOf (enteredAt t k p last q))
@@ -149,7 +149,7 @@ enters-of t k p last q g b on h free digit later until proper = record {
   room = rw (g .requests) h;
   below = h;
   free = free;
-  silent = λ u l. nothing-said (siteAt t u) p (b .place p h .free-held free u (let c = b .count-to in omega arith));
+  silent = λ u l. nothing-means (siteAt t u) p (b .place p h .free-held free u (let c = b .count-to in omega arith));
   digit = digit;
   later = later;
   until = until;
@@ -210,11 +210,6 @@ retires-of t p f g b h forgets judged = record {
 
 -- ---- fresh
 
-blank-at : {A : Type 0} (n i : ℕ) (d : A) → getD (replicate n d) i d ≡ d
-blank-at zero i d = refl
-blank-at (suc n) zero d = refl
-blank-at (suc n) (suc i) d = blank-at n i d
-
 -- a fresh table is tied to the empty history
 pub fresh-tied : (n : ℕ) → n ≤ 7 → Tied n (pos 0) (viewOf (blankTable n)) []
 unfolding viewOf blankTable blankSite blankRequest
@@ -228,4 +223,4 @@ fresh-tied n h = tied-fresh (viewOf (blankTable n)) none blanks
     blanks : (s i : ℕ) → s < n → viewOf (blankTable n) .copy s i ≡ blank (pos 0)
     blanks s i l =
         let e : siteAt (blankTable n) s ≡ blankSite (ltb s n) = listed-at 7 s (λ k. blankSite (ltb k n)) noSite (omega arith) in
-        ap (λ (x : Site). readingAt x i) e ∙ (λ d. record { stamp = blank-at 24 i 0 d; value = blank-at 24 i (pos 0) d })
+        ap (λ (x : Site). readingAt x i) e ∙ (λ d. record { stamp = replicate-at 24 i 0 d; value = replicate-at 24 i (pos 0) d })

@@ -11,12 +11,14 @@ use Rattle.kit.proofs.Bools.{clash, and-left, and-right, both-true, by-test, by
 use Rattle.ledger.specs.Ledger.{Reading, Conflict, Request as LedgerRequest}
 use Rattle.ledger.specs.View.{Word, votes-ok, votes-against, accepts, rejects, copyAfter, CanOk, Says, Goes}
 use Rattle.ledger.proofs.Link.{goes-says}
-use Rattle.table.specs.Meaning.{ShapedSite}
 use Rattle.table.specs.Places.{siteAt, placeAt, usedPlace, markAt, withSite}
 use Rattle.table.specs.declared.data.Table.{Table}
+use Rattle.table.proofs.Backing.{Known}
+use Rattle.table.proofs.Places.{site-same, site-other, each-site}
 use Rattle.vote.specs.Consider.{considered, markOf, defers}
 use Rattle.vote.specs.Data.{isOk, isOther, isOpen, isPending, headOf, headsOf, requestIn, voteAt}
 use Rattle.vote.specs.Queue.{leavesQueue}
+use Rattle.vote.specs.Shape.{ShapedSite}
 use Rattle.vote.specs.Voters.{knows}
 use Rattle.vote.specs.Voting.{withMark, voted, votedFromQueue}
 use Rattle.vote.specs.declared.consider.Outcome.{Outcome}
@@ -31,11 +33,12 @@ use Rattle.vote.proofs.Conflicts.{heads-at, conflicts-turned}
 use Rattle.vote.proofs.Considering.{Free, ok-means}
 use Rattle.vote.proofs.After.{CopiesOf, voted-oks, voted-others}
 use Rattle.vote.proofs.Fields.{voted-keeps, voted-from-keeps, leaves-keeps}
+use Rattle.vote.proofs.MarkKinds.{NoVote, request-in}
 use Rattle.vote.proofs.Said.{Says as SaysAt, voted-says, voted-from-says}
 use Rattle.tied.specs.Events.{voteEvent}
 use Rattle.tied.specs.Views.{requestOf, isAccepted, isRejected, saysOf, readingAt, viewOf}
-use Rattle.tied.proofs.Sites.{Speaks, site-here, site-else, by-site, site-says}
-use Rattle.tied.proofs.Standing.{NoVote, Known, HeldOpen, request-in}
+use Rattle.tied.proofs.Sites.{Speaks, site-says}
+use Rattle.tied.proofs.Standing.{HeldOpen}
 use Rattle.tied.proofs.Words.{has-below, has-member, conflict-meant}
 
 -- ---- told of the site alone
@@ -119,10 +122,10 @@ module _ (t : Table) (k : ℕ) (fits : k < length (t .sites)) (s : Site) (p : �
   ok-can h none e =
       let f = ok-means (headsOf (t .requests)) (s .votes) (s .stamps) (placeAt t p) (rw (request-in (t .requests) p h) at e) in
       record {
-        free = rw (site-here t k fits s) (none .no-other);
-        same = λ i b. rw (site-here t k fits s) (f .stamps .same i (has-below (placeAt t p .base) i b) (has-member (placeAt t p .base) i b));
-        clear = λ q held m c. rw (site-here t k fits s)
-            (judged-by (voteAt (s .votes) q .verdict) (clear-at f q (ltb-true q 16 (and-left (ltb q 16) (usedPlace t q) held)) (rw (site-here t k fits s) at m) c));
+        free = rw (site-same t k s fits) (none .no-other);
+        same = λ i b. rw (site-same t k s fits) (f .stamps .same i (has-below (placeAt t p .base) i b) (has-member (placeAt t p .base) i b));
+        clear = λ q held m c. rw (site-same t k s fits)
+            (judged-by (voteAt (s .votes) q .verdict) (clear-at f q (ltb-true q 16 (and-left (ltb q 16) (usedPlace t q) held)) (rw (site-same t k s fits) at m) c));
       }
 
   module _ (on : k < t .count) (s′ : Site) (o : HeldOpen t p s) (none : NoVote (voteAt (s .votes) p .mark)) where
@@ -141,7 +144,7 @@ module _ (t : Table) (k : ℕ) (fits : k < length (t .sites)) (s : Site) (p : �
     unfolding viewOf
     against-says m e f w =
         site-says t k fits on s s′ votes-against p held (mark-speaks votes-against m p (requestOf (placeAt t p)) (against-voices m e f) none w)
-        (rw (site-here t k fits s) (none .no-ok))
+        (rw (site-same t k s fits) (none .no-ok))
 
     -- it votes as it must, having considered the request
     pub vote-goes
@@ -193,12 +196,12 @@ module _ (t : Table) (k : ℕ) (fits : k < length (t .sites)) (s s′ : Site) (p
   pub mark-stays
       : (kind : Mark → Bool) → (kind (voteAt (s .votes) p .mark) ≡ true → kind (voteAt (s′ .votes) p .mark) ≡ true) → (u : ℕ)
       → kind (markAt (withSite k s t) u p) ≡ true → kind (markAt (withSite k s′ t) u p) ≡ true
-  mark-stays kind keeps =
-      by-site t k fits (λ j x. kind (voteAt (siteAt (withSite k s t) j .votes) p .mark) ≡ true → kind (voteAt (x .votes) p .mark) ≡ true) s′
-      (rw (site-here t k fits s) keeps) (λ j ne. rw (site-else t k fits s j ne) (λ e. e))
+  mark-stays kind keeps u =
+      each-site (λ j x. kind (voteAt (siteAt (withSite k s t) j .votes) p .mark) ≡ true → kind (voteAt (x .votes) p .mark) ≡ true) t k s′ u fits
+      (rw (site-same t k s fits) keeps) (λ ne. rw (site-other t k s u ne) (λ e. e))
 
   mark-here : markAt (withSite k s′ t) k p ≡ voteAt (s′ .votes) p .mark
-  mark-here = ap (λ (x : Site). voteAt (x .votes) p .mark) (site-here t k fits s′)
+  mark-here = ap (λ (x : Site). voteAt (x .votes) p .mark) (site-same t k s′ fits)
 
   -- who is known then: who was, and the voter itself
   known-then : (a b : Bool) (u : ℕ) {P : Type 0} → (a || (b && (eqb p p && eqb k u))) ≡ true → (a ≡ true → P) → (b ≡ true → k ≡ u → P) → P
@@ -215,11 +218,3 @@ module _ (t : Table) (k : ℕ) (fits : k < length (t .sites)) (s s′ : Site) (p
         others = λ u l e. known-then (knows (s .others) p u) (not (isOk m)) u (sym (c .others u l) ∙ e)
             (λ o. mark-stays isOther (λ y. clash y (none .no-other)) u (h .others u l o)) (λ b q. rw (← q) (ap isOther is ∙ either ∙ b));
       }
-
--- an outcome that is no deferral is one of the two kinds
-pub vote-kind : (x : Outcome) → defers x ≡ false → isOther (markOf x) ≡ not (isOk (markOf x))
-vote-kind outcome.Rej e = refl
-vote-kind outcome.DeferBase e = clash refl e
-vote-kind outcome.Dr e = refl
-vote-kind outcome.DeferPending e = clash refl e
-vote-kind outcome.Ok e = refl

@@ -6,38 +6,29 @@ use mathlib.Core.Path.{_≡_, refl, ap, subst, _∙_}
 use lib.ListN.{length}
 use Rattle.ledger.specs.View.{Goes}
 use Rattle.ledger.proofs.Link.{goes-stay, goes-then}
-use Rattle.table.specs.Meaning.{ShapedSite}
 use Rattle.table.specs.Places.{siteAt, withSite}
 use Rattle.table.specs.declared.data.Table.{Table}
+use Rattle.table.proofs.Backing.{Known, due-backed}
+use Rattle.table.proofs.Places.{site-back}
 use Rattle.vote.specs.Consider.{markOf, defers}
 use Rattle.vote.specs.Data.{isOpen, voteAt}
+use Rattle.vote.specs.Shape.{ShapedSite}
 use Rattle.vote.specs.Voting.{withMark}
 use Rattle.vote.specs.declared.data.Mark.{Mark}
 use Rattle.vote.specs.declared.data.Request.{Request}
 use Rattle.vote.specs.declared.data.Site.{Site}
 use Rattle.vote.specs.declared.data.Vote.{Vote}
+use Rattle.vote.proofs.MarkKinds.{NoVote, vote-kind}
 use Rattle.vote.proofs.Said.{Says as SaysAt}
-use Rattle.vote.proofs.Shapes.{SameShape, voted-from-shape}
+use Rattle.vote.proofs.Shapes.{voted-from-shape, shaped-as}
 use Rattle.walk.specs.Rules.{Walk}
 use Rattle.walk.specs.Walking.{Said, Out, queued, outcomeAt, votedAt, dueAt, ruledAt, saysVote, saysRule, walked}
 use Rattle.walk.proofs.Inductions.{Keeps, Links, linked, walked-linked}
 use Rattle.tied.specs.Events.{eventsOf}
 use Rattle.tied.specs.Views.{viewOf}
-use Rattle.tied.proofs.Rulings.{due-backed, rule-goes}
-use Rattle.tied.proofs.Sites.{site-back}
-use Rattle.tied.proofs.Standing.{NoVote, Known, Unvoiced, HeldOpen}
-use Rattle.tied.proofs.Votes.{Casts, vote-goes, vote-kind, voted-from-casts, known-cast}
-
--- the lengths of a site's lists, after a change that keeps them
-pub shaped-as : {s s′ : Site} → SameShape s s′ → ShapedSite s → ShapedSite s′
-shaped-as a b = record {
-  stamps = a .stamps ∙ b .stamps;
-  values = a .values ∙ b .values;
-  queue = a .queue ∙ b .queue;
-  votes = a .votes ∙ b .votes;
-  oks = a .oks ∙ b .oks;
-  others = a .others ∙ b .others;
-}
+use Rattle.tied.proofs.Rulings.{rule-goes}
+use Rattle.tied.proofs.Standing.{Unvoiced, HeldOpen}
+use Rattle.tied.proofs.Votes.{Casts, vote-goes, voted-from-casts, known-cast}
 
 -- a vote leaves the request open
 pub open-marked : (t : Table) (p : ℕ) (m : Mark) {s s′ : Site} → HeldOpen t p s → SaysAt p (withMark m (voteAt (s .votes) p)) s s′ → HeldOpen t p s′

@@ -15,15 +15,16 @@ use Rattle.table.specs.Meaning.{ShapedRequest, ShapedMessage, SoundPlace, Sound
 use Rattle.table.specs.Places.{siteAt, messageAt, placeAt}
 use Rattle.table.specs.declared.data.Message.{Message}
 use Rattle.table.specs.declared.data.Table.{Table}
+use Rattle.table.proofs.Nothing.{Nothing, nothing-of}
 use Rattle.vote.specs.Data.{blankRequest, voteAt}
 use Rattle.vote.specs.Voters.{knows, hasVoter, noVoters, noneKnown, votersKnown, noRow}
 use Rattle.vote.specs.declared.data.Request.{Request}
 use Rattle.vote.specs.declared.data.Site.{Site}
 use Rattle.vote.proofs.KnownVoters.{voters-number}
+use Rattle.vote.proofs.MarkKinds.{unmarked-no-vote}
 use Rattle.vote.proofs.Rows.{unknown-at}
 use Rattle.upkeep.specs.But.{HoldingBut, Quiet}
-use Rattle.upkeep.proofs.Carried.{Nothing, open-backed, nothing-of, unused-message}
-use Rattle.upkeep.proofs.Voting.{unmarked-no-vote}
+use Rattle.upkeep.proofs.Carried.{open-backed, unused-message}
 
 voters-none : (known : List Bool) (q : ℕ) → noneKnown known q ≡ true → votersKnown known q ≡ 0
 voters-none known q e = voters-number known q ∙ number-none 7 (knows known q) (λ u l. unknown-at known q u e l)

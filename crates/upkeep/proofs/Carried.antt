@@ -9,19 +9,20 @@ use lib.Dec.{eqb}
 use lib.IntN.{pos}
 use lib.ListN.{getD}
 use Rattle.kit.specs.Range.{number}
-use Rattle.kit.proofs.Bools.{clash, and-left, and-right, both-true, by-test}
+use Rattle.kit.proofs.Bools.{clash, and-left, and-right, by-test}
 use Rattle.kit.proofs.Ranges.{number-grows}
 use Rattle.majority.specs.Majority.{majority, blocking}
 use Rattle.readings.specs.Readings.{inRange}
 use Rattle.stamps.specs.Stamps.{timeOf, digitOf, wellFormed}
 use Rattle.stamps.proofs.Laws.{digit-lt}
-use Rattle.table.specs.Blank.{blankVote, holdsNothing, isBlankSite, isBlankMessage}
+use Rattle.table.specs.Blank.{holdsNothing, isBlankSite, isBlankMessage}
 use Rattle.table.specs.Meaning.{SoundSite, SoundPlace, SoundMessage}
 use Rattle.table.specs.Places.{siteAt, messageAt, placeAt, lastOf}
 use Rattle.table.specs.Sound.{queueExact, marksOk, marksOther, backed}
 use Rattle.table.specs.declared.data.Message.{Message}
 use Rattle.table.specs.declared.data.Table.{Table}
-use Rattle.vote.specs.Data.{isUnmarked, isOpen, voteAt}
+use Rattle.table.proofs.Nothing.{nothing-means, nothing-of}
+use Rattle.vote.specs.Data.{isOpen, voteAt}
 use Rattle.vote.specs.Queue.{queuedAt}
 use Rattle.vote.specs.Voters.{knows, noVoters, noneKnown}
 use Rattle.vote.specs.declared.data.Site.{Site}
@@ -92,28 +93,6 @@ quiet-carried {n} {s} {s′} {q} w h = record {
   unheard-oks = λ o u. none-same (s .oks) (s′ .oks) q (w .oks) (h .unheard-oks (rw (w .vote) at o) (rw (w .vote) at u));
   unheard-others = λ o u. none-same (s .others) (s′ .others) q (w .others) (h .unheard-others (rw (w .vote) at o) (rw (w .vote) at u));
 }
-
--- nothing, in its three parts
-pub record Nothing (s : Site) (q : ℕ) : Type 0 where
-  pub unmarked : isUnmarked (voteAt (s .votes) q .mark) ≡ true
-  pub unruled : isOpen (voteAt (s .votes) q .verdict) ≡ true
-  pub no-oks : noneKnown (s .oks) q ≡ true
-  pub no-others : noneKnown (s .others) q ≡ true
-
-pub nothing-means : (s : Site) (q : ℕ) → holdsNothing s q ≡ true → Nothing s q
-unfolding holdsNothing blankVote
-nothing-means s q e =
-    let a : Bool = isUnmarked (voteAt (s .votes) q .mark) in
-    let b : Bool = isOpen (voteAt (s .votes) q .verdict) in
-    let c : Bool = noneKnown (s .oks) q in
-    let d : Bool = noneKnown (s .others) q in
-    let f : (a && b) ≡ true = and-left (a && b) (c && d) e in
-    let g : (c && d) ≡ true = and-right (a && b) (c && d) e in
-    record { unmarked = and-left a b f; unruled = and-right a b f; no-oks = and-left c d g; no-others = and-right c d g }
-
-pub nothing-of : {s : Site} {q : ℕ} → Nothing s q → holdsNothing s q ≡ true
-unfolding holdsNothing blankVote
-nothing-of h = both-true (both-true (h .unmarked) (h .unruled)) (both-true (h .no-oks) (h .no-others))
 
 pub nothing-carried : {s s′ : Site} {q : ℕ} → SameHeld s s′ q → holdsNothing s q ≡ true → holdsNothing s′ q ≡ true
 nothing-carried {s} {s′} {q} w e =

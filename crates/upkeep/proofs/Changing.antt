@@ -13,26 +13,28 @@ use Rattle.stamps.specs.Stamps.{timeOf, digitOf, issuedForm}
 use Rattle.stamps.proofs.Laws.{form-some}
 use Rattle.table.specs.Blank.{holdsNothing}
 use Rattle.table.specs.Fresh.{blankMessage}
-use Rattle.table.specs.Meaning.{ShapedSite, ShapedRequest, ShapedMessage, ShapedTable, Holding, SoundSite, SoundPlace, SoundMessage, Sound}
+use Rattle.table.specs.Meaning.{ShapedRequest, ShapedMessage, ShapedTable, Holding, SoundSite, SoundPlace, SoundMessage, Sound}
 use Rattle.table.specs.Places.{noSite, noMessage, siteAt, messageAt, placeAt, markAt, verdictAt, lastOf, withSites, withSite, withRequest, withMessage}
 use Rattle.table.specs.Sound.{timesQueued, requestAllowed, queueExact, marksOk, marksOther, backed}
 use Rattle.table.specs.declared.data.Message.{Message}
 use Rattle.table.specs.declared.data.Table.{Table}
+use Rattle.table.proofs.Nothing.{Nothing, nothing-means, blank-holds}
+use Rattle.table.proofs.Places.{site-same, site-other, each-site, shaped-with-site, shaped-with-request, shaped-with-message}
 use Rattle.vote.specs.Data.{noRequest, isOk, isOther, isUnmarked, isDeferred, isOpen, voteAt, blankRequest, withUp, withLast}
+use Rattle.vote.specs.Shape.{ShapedSite}
 use Rattle.vote.specs.Voters.{knows, votersOf, hasVoter, noRow}
 use Rattle.vote.specs.declared.data.Request.{Request}
 use Rattle.vote.specs.declared.data.Site.{Site}
 use Rattle.vote.specs.declared.data.Vote.{Vote}
 use Rattle.vote.proofs.KnownVoters.{length-votersOf}
+use Rattle.vote.proofs.MarkKinds.{unmarked-not-deferred}
 use Rattle.vote.proofs.Rows.{row-known, row-none}
 use Rattle.upkeep.proofs.Blanks.{nothing-held, nothing-quiet, blank-place, blank-message, blank-stamp, shaped-blank-request, shaped-blank-message}
 use Rattle.upkeep.proofs.Buts.{holding-but, holding-quiet, holding-of}
-use Rattle.upkeep.proofs.Carried.{Grown, Later, SameHeld, SiteRight, Nothing, nothing-means, nothing-carried, held-carried, quiet-carried, site-right, site-sound, right-carried, place-carried, message-carried, backed-grown}
-use Rattle.upkeep.proofs.Forgetting.{forgets, forgets-shaped, forgets-elsewhere, forgets-here, forgets-blank, blank-holds}
-use Rattle.upkeep.proofs.Places.{site-same, site-other, each-site, shaped-with-site, shaped-with-request, shaped-with-message}
+use Rattle.upkeep.proofs.Carried.{Grown, Later, SameHeld, SiteRight, nothing-carried, held-carried, quiet-carried, site-right, site-sound, right-carried, place-carried, message-carried, backed-grown}
+use Rattle.upkeep.proofs.Forgetting.{forgets, forgets-shaped, forgets-elsewhere, forgets-here, forgets-blank}
 use Rattle.upkeep.proofs.Queueing.{queued-same}
 use Rattle.upkeep.proofs.Ruling.{copies-right, queue-right, right-of}
-use Rattle.upkeep.proofs.Voting.{unmarked-not-deferred}
 
 -- ---- sites that stay as they were, but for being up and a later last t
 
@@ -388,7 +390,7 @@ module _ (t : Table) (p : ℕ) (f : ℕ → Site → Site) (is : (j : ℕ) (s : 
   undeferred : (j : ℕ) → j < 7 → isDeferred (markAt t j p) ≡ false
   undeferred j h =
       by-lt j (t .count) (λ l. b .holding j p h hp .judged (judged j l))
-      (λ l. unmarked-not-deferred (markAt t j p) (nothing-means (siteAt t j) p (blank-holds p (siteAt t j) (g .site j h) (b .site j h .unused l) p hp) .unmarked))
+      (λ l. unmarked-not-deferred (markAt t j p) (nothing-means (siteAt t j) p (blank-holds (siteAt t j) (b .site j h .unused l) p hp) .unmarked))
 
   right-then : (j : ℕ) → j < 7 → SiteRight R (forgets p (siteAt t j))
   right-then j h =

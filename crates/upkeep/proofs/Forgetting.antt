@@ -1,23 +1,23 @@
 -- A site that forgets a place: it holds nothing of it, and of each other place what it held.
 use mathlib.Core.Path.{_≡_, refl, sym, ap, _∙_}
-use mathlib.Core.Bool.{Bool, true, not, _&&_}
+use mathlib.Core.Bool.{true}
 use Prim.Native.Nat.{ℕ, _<_}
 use borrow.Author.Tests.{eq-eqb, ne-eqb}
-use lib.Dec.{eqb}
 use lib.ListN.{set, length-set}
 use lib.Seq.{getD-set-same, getD-set-other}
 use Rattle.kit.specs.Range.{all}
-use Rattle.kit.proofs.Bools.{and-right, by-eq}
-use Rattle.kit.proofs.Ranges.{all-at, all-of}
-use Rattle.table.specs.Blank.{zeros, zeroValues, holdsNothing, isBlankSite}
-use Rattle.table.specs.Meaning.{ShapedSite}
+use Rattle.kit.proofs.Bools.{by-eq}
+use Rattle.kit.proofs.Ranges.{all-of}
+use Rattle.table.specs.Blank.{holdsNothing, isBlankSite}
+use Rattle.table.proofs.Nothing.{Nothing, nothing-of, blank-holds}
 use Rattle.vote.specs.Data.{noVote, voteAt, isUnmarked, isOpen, withVotes, withKnown}
+use Rattle.vote.specs.Shape.{ShapedSite}
 use Rattle.vote.specs.Voters.{clearVoters}
 use Rattle.vote.specs.declared.data.Site.{Site}
 use Rattle.vote.specs.declared.data.Vote.{Vote}
 use Rattle.vote.proofs.KnownVoters.{knows-cleared}
 use Rattle.vote.proofs.Rows.{length-clearVoters, unknown-of}
-use Rattle.upkeep.proofs.Carried.{Nothing, SameHeld, nothing-of, nothing-carried}
+use Rattle.upkeep.proofs.Carried.{SameHeld, nothing-carried}
 
 -- nothing is said of place p, and nobody is known there
 abbrev pub forgets : ℕ → Site → Site
@@ -52,24 +52,10 @@ module _ (p : ℕ) (s : Site) (g : ShapedSite s) where
       }
 
   -- a blank site stays blank
-  pub blank-holds : isBlankSite s ≡ true → (q : ℕ) → q < 16 → holdsNothing s q ≡ true
-  unfolding isBlankSite
-  blank-holds e q h =
-      let c1 : Bool = not (s .up) in
-      let c2 : Bool = eqb (s .last) 0 in
-      let c3 : Bool = zeros 24 (s .stamps) in
-      let c4 : Bool = zeroValues (s .values) in
-      let c5 : Bool = zeros 16 (s .queue) in
-      let c6 : Bool = eqb (s .waiting) 0 in
-      let c7 : Bool = all 16 (holdsNothing s) in
-      all-at (holdsNothing s) 16 q
-      (and-right c6 c7 (and-right c5 (c6 && c7) (and-right c4 (c5 && (c6 && c7)) (and-right c3 (c4 && (c5 && (c6 && c7)))
-      (and-right c2 (c3 && (c4 && (c5 && (c6 && c7)))) (and-right c1 (c2 && (c3 && (c4 && (c5 && (c6 && c7))))) e)))))) h
-
   pub forgets-blank : p < 16 → isBlankSite s ≡ true → isBlankSite (forgets p s) ≡ true
   unfolding isBlankSite
   forgets-blank hp e =
-      let old : all 16 (holdsNothing s) ≡ true = all-of 16 (holdsNothing s) (blank-holds e) in
+      let old : all 16 (holdsNothing s) ≡ true = all-of 16 (holdsNothing s) (blank-holds s e) in
       let new : all 16 (holdsNothing (forgets p s)) ≡ true =
-      all-of 16 (holdsNothing (forgets p s)) (λ q h. by-eq q p (λ z. rw z (nothing-of (forgets-here hp))) (λ ne. nothing-carried (forgets-elsewhere hp q h ne) (blank-holds e q h))) in
+      all-of 16 (holdsNothing (forgets p s)) (λ q h. by-eq q p (λ z. rw z (nothing-of (forgets-here hp))) (λ ne. nothing-carried (forgets-elsewhere hp q h ne) (blank-holds s e q h))) in
       rw new (rw old at e)

@@ -7,6 +7,7 @@ use Rattle.table.specs.Meaning.{ShapedTable, Sound}
 use Rattle.table.specs.Places.{siteAt, messageAt, placeAt, markAt, verdictAt, withSite}
 use Rattle.table.specs.Sound.{marksOk, marksOther, backed}
 use Rattle.table.specs.declared.data.Table.{Table}
+use Rattle.table.proofs.Places.{site-back, shaped-with-site}
 use Rattle.vote.specs.Data.{isUnmarked, isOpen}
 use Rattle.vote.specs.Voters.{hasVoter}
 use Rattle.vote.specs.declared.data.Site.{Site}
@@ -14,7 +15,6 @@ use Rattle.vote.specs.declared.data.Verdict.{Verdict}
 use Rattle.walk.specs.Hearing.{settled, takenUp, heard, received}
 use Rattle.walk.specs.Walking.{walked, resolved}
 use Rattle.upkeep.proofs.Lifting.{At, Fine, fine-but, fine-now, site-in}
-use Rattle.upkeep.proofs.Places.{site-back, shaped-with-site}
 use Rattle.upkeep.proofs.Walking.{walked-fine, resolved-fine, settled-walk-fine, taken-up-fine, due-none, heard-fine, received-fine}
 
 module _ (t : Table) (k : ℕ) (g : ShapedTable t) (b : Sound t) (hk : k < t .count) where

@@ -1,6 +1,4 @@
 -- What keeps a table sound: each small operation of one site once, then what a site does with a request, then the other changes of a table.
-pub mod Places
-pub mod Counts
 pub mod Buts
 pub mod Carried
 pub mod Lifting

@@ -6,16 +6,17 @@ use native.Mathlib.Omega.{arith}
 use lib.ListN.{length}
 use Rattle.kit.proofs.Bools.{by-eq}
 use Rattle.table.specs.Blank.{holdsNothing, isBlankSite}
-use Rattle.table.specs.Meaning.{ShapedSite, ShapedTable, SoundSite, SoundPlace, SoundMessage, Sound}
+use Rattle.table.specs.Meaning.{ShapedTable, SoundSite, SoundPlace, SoundMessage, Sound}
 use Rattle.table.specs.Places.{siteAt, messageAt, placeAt, markAt, withSite}
 use Rattle.table.specs.declared.data.Table.{Table}
+use Rattle.table.proofs.Places.{site-same, site-other, each-site, site-back}
 use Rattle.vote.specs.Data.{isOk, isOther, voteAt}
+use Rattle.vote.specs.Shape.{ShapedSite}
 use Rattle.vote.specs.declared.data.Mark.{Mark}
 use Rattle.vote.specs.declared.data.Site.{Site}
 use Rattle.upkeep.specs.But.{HoldingBut, Quiet, SoundBut}
 use Rattle.upkeep.proofs.Buts.{holding-quiet, sound-but, sound-whole}
 use Rattle.upkeep.proofs.Carried.{Grown, Later, SameHeld, SiteRight, site-right, site-sound, held-carried, quiet-carried, nothing-carried, right-carried, place-carried, message-carried}
-use Rattle.upkeep.proofs.Places.{site-same, site-other, each-site, site-back}
 
 -- k is a site of the table t, whose lists have their lengths
 pub record At (t : Table) (k : ℕ) : Type 0 where

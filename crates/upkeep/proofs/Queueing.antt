@@ -1,23 +1,24 @@
 -- A queue that holds exactly the deferred requests, once each: from the test to facts good for change, through each change, and back.
 use mathlib.Core.Path.{_≡_, refl, sym, ap, _∙_}
-use mathlib.Core.Bool.{Bool, true, false, _&&_}
+use mathlib.Core.Bool.{Bool, true, false}
 use Prim.Native.Nat.{ℕ, _≤_, _<_}
 use native.Mathlib.Omega.{arith}
-use borrow.Author.Tests.{eqb-true, eq-eqb, leb-true, le-leb, ltb-true, lt-ltb}
-use lib.Dec.{eqb, leb, ltb}
+use borrow.Author.Tests.{eqb-true, eq-eqb}
+use lib.Dec.{eqb}
 use lib.ListN.{length}
-use Rattle.kit.specs.Range.{all, one, number}
-use Rattle.kit.proofs.Bools.{clash, and-left, and-right, both-true, by-test, by-eq, by-lt}
-use Rattle.kit.proofs.Ranges.{all-at, all-of, one-of, number-none}
-use Rattle.table.specs.Sound.{timesQueued, queueExact}
+use Rattle.kit.specs.Range.{one, number}
+use Rattle.kit.proofs.Bools.{clash, by-test, by-eq, by-lt}
+use Rattle.kit.proofs.Counts.{number-single, only-one, room-left}
+use Rattle.kit.proofs.Ranges.{one-of, number-none, one-le}
+use Rattle.table.specs.Sound.{queueExact}
+use Rattle.table.proofs.Queues.{Exact, exact-means, exact-of, exact-deferred}
 use Rattle.vote.specs.Data.{isDeferred, voteAt}
 use Rattle.vote.specs.Queue.{queuedAt, joinsQueue, leavesQueue}
 use Rattle.vote.specs.declared.data.Site.{Site}
 use Rattle.vote.specs.declared.data.Vote.{Vote}
-use Rattle.vote.proofs.After.{QueueOf, waits-of, once-of, tidy-of}
+use Rattle.vote.proofs.After.{QueueOf, waits-of, once-of, tidy-of, queue-back}
 use Rattle.vote.proofs.Queues.{Waits, Once, Tidy, queued-out, waiting-joined, waits-new, waits-still, waits-before, once-joined, waiting-left, waits-left-before, waits-gone, waits-left, once-left, tidy-joined, tidy-left}
 use Rattle.vote.proofs.Said.{Says}
-use Rattle.upkeep.proofs.Counts.{number-some, number-single, number-less, only-one, pigeons}
 
 pub record Queued (s : Site) : Type 0 where
   pub few : s .waiting ≤ 16
@@ -29,40 +30,25 @@ pub record Queued (s : Site) : Type 0 where
 
 -- ---- from the test and back
 
-one-true : (b : Bool) → 0 < one b → b ≡ true
-one-true true h = refl
-one-true false h = absurd (let z : ⊥ = omega arith in z)
-
-one-few : (b : Bool) → one b ≤ 1
-one-few true = omega arith
-one-few false = omega arith
-
 module _ (s : Site) where
   -- p stands at place i
   abbrev stands : ℕ → ℕ → Bool
   stands p i = eqb (queuedAt (s .queue) i) p
 
   pub queued-means : length (s .queue) ≡ 16 → ((i : ℕ) → i < 16 → s .waiting ≤ i → queuedAt (s .queue) i ≡ 0) → queueExact s ≡ true → Queued s
-  unfolding queueExact timesQueued
   queued-means len blank e =
-      let c1 : Bool = leb (s .waiting) 16 in
-      let c2 : Bool = all (s .waiting) (λ i. ltb (queuedAt (s .queue) i) 16) in
-      let c3 : Bool = all 16 (λ p. eqb (number (s .waiting) (λ i. eqb (queuedAt (s .queue) i) p)) (one (isDeferred (voteAt (s .votes) p .mark)))) in
-      let r : (c2 && c3) ≡ true = and-right c1 (c2 && c3) e in
-      let below : (i : ℕ) → i < s .waiting → queuedAt (s .queue) i < 16 = λ i h. ltb-true _ _ (all-at (λ j. ltb (queuedAt (s .queue) j) 16) (s .waiting) i (and-left c2 c3 r) h) in
-      let times : (p : ℕ) → p < 16 → number (s .waiting) (stands p) ≡ one (isDeferred (voteAt (s .votes) p .mark)) =
-      λ p h. eqb-true _ _ (all-at (λ q. eqb (number (s .waiting) (λ i. eqb (queuedAt (s .queue) i) q)) (one (isDeferred (voteAt (s .votes) q .mark)))) 16 p (and-right c2 c3 r) h) in
-      let inside : (x : ℕ) → Waits s x → x < 16 = λ x w. rw (← w .there) (below (w .place) (w .inside)) in
+      let x : Exact s = exact-means s e in
+      let inside : (p : ℕ) → Waits s p → p < 16 = λ p w. rw (← w .there) (x .inside (w .place) (w .inside)) in
       record {
-        few = leb-true _ _ (and-left c1 (c2 && c3) e);
+        few = x .few;
         inside = inside;
-        deferred = λ x w. one-true _ (rw (← times x (inside x w)) (number-some (stands x) (s .waiting) (w .place) (w .inside) (eq-eqb _ _ (w .there))));
-        waits = λ x h d. let f : 0 < number (s .waiting) (stands x) = rw (times x h, d) (omega arith) in
-            let i = one-of (s .waiting) (stands x) f in
+        deferred = λ p w. rw (← w .there) (exact-deferred s x (w .place) (w .inside));
+        waits = λ p h d. let f : 0 < number (s .waiting) (stands p) = rw (x .times p h, d) (omega arith) in
+            let i = one-of (s .waiting) (stands p) f in
             record { place = i .0; inside = i .1; there = eqb-true _ _ (i .2) };
         once = record {
           once = λ i j hi hj q. only-one (stands (queuedAt (s .queue) j)) (s .waiting) i j
-              (rw (times (queuedAt (s .queue) j) (below j hj)) (one-few (isDeferred (voteAt (s .votes) (queuedAt (s .queue) j) .mark)))) hi hj
+              (rw (x .times (queuedAt (s .queue) j) (x .inside j hj)) (one-le (isDeferred (voteAt (s .votes) (queuedAt (s .queue) j) .mark)))) hi hj
               (eq-eqb (queuedAt (s .queue) i) (queuedAt (s .queue) j) q) (eq-eqb (queuedAt (s .queue) j) (queuedAt (s .queue) j) refl);
         };
         tidy = record { blank = λ i h. by-lt i 16 (λ l. blank i l h) (λ l. sym (queued-out (s .queue) i len (omega arith))) };
@@ -78,16 +64,14 @@ module _ (s : Site) where
       ∙ ap one (sym d))
 
   pub queued-of : Queued s → queueExact s ≡ true
-  unfolding queueExact timesQueued
   queued-of q =
-      both-true (le-leb _ _ (q .few))
-      (both-true (all-of (s .waiting) _ (λ i h. lt-ltb _ _ (q .inside (queuedAt (s .queue) i) (record { place = i; inside = h; there = refl }))))
-      (all-of 16 _ (λ p h. eq-eqb _ _ (times-of q p h))))
+      exact-of s (record {
+        few = q .few;
+        inside = λ i h. q .inside (queuedAt (s .queue) i) (record { place = i; inside = h; there = refl });
+        times = times-of q;
+      })
 
 -- ---- through each change
-
-queue-back : {u t : Site} → QueueOf u t → QueueOf t u
-queue-back q = record { queue = sym (q .queue); waiting = sym (q .waiting) }
 
 -- a queue that stays, of a site whose deferred requests stay
 pub queued-same : {s s′ : Site} → Queued s → QueueOf s s′ → ((x : ℕ) → x < 16 → isDeferred (voteAt (s′ .votes) x .mark) ≡ isDeferred (voteAt (s .votes) x .mark)) → Queued s′
@@ -103,12 +87,8 @@ queued-same q o same = record {
 -- a queue has room for a request that is not deferred yet
 pub room-for : (s : Site) (p : ℕ) → Queued s → p < 16 → isDeferred (voteAt (s .votes) p .mark) ≡ false → s .waiting < 16
 room-for s p q h d =
-    let test : ℕ → Bool = λ x. isDeferred (voteAt (s .votes) x .mark) in
-    let some : s .waiting ≤ number 16 test = pigeons (queuedAt (s .queue)) 16 test (s .waiting)
-    (λ i l. q .inside (queuedAt (s .queue) i) (record { place = i; inside = l; there = refl }))
-    (λ i l. q .deferred (queuedAt (s .queue) i) (record { place = i; inside = l; there = refl })) (q .once .once) in
-    let less : number 16 test < 16 = number-less test 16 p h d in
-    omega arith
+    room-left (queuedAt (s .queue)) 16 (s .waiting) (λ i l. q .inside (queuedAt (s .queue) i) (record { place = i; inside = l; there = refl })) (q .once .once) p h
+    (λ i l e. clash (q .deferred p (record { place = i; inside = l; there = e })) d)
 
 -- it joins
 pub queued-joined

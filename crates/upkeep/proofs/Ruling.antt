@@ -4,54 +4,41 @@ use mathlib.Core.Bool.{Bool, true, false, _&&_}
 use mathlib.Core.List.{List}
 use Prim.Native.Nat.{ℕ, _≤_, _<_}
 use native.Mathlib.Omega.{arith}
-use borrow.Author.Tests.{le-leb, lt-ltb}
 use lib.IntN.{ℤ, pos}
 use lib.ListN.{getD}
-use Rattle.kit.specs.Range.{all, number, implies}
+use Rattle.kit.specs.Range.{all, implies}
 use Rattle.kit.proofs.Bools.{clash, and-right, implied, by-test, by-eq, of-cond}
-use Rattle.kit.proofs.Ranges.{all-at, number-grows}
-use Rattle.majority.specs.Majority.{majority, blocking}
+use Rattle.kit.proofs.Ranges.{all-at}
 use Rattle.readings.specs.Readings.{inRange}
 use Rattle.sets.specs.Sets.{member}
 use Rattle.stamps.specs.Stamps.{timeOf, wellFormed}
 use Rattle.stamps.proofs.Laws.{well-issued}
-use Rattle.table.specs.Meaning.{ShapedSite, SoundPlace}
+use Rattle.table.specs.Meaning.{SoundPlace}
 use Rattle.table.specs.Places.{placeAt, lastOf, withSite}
-use Rattle.table.specs.Sound.{setsAllowed, baseStampsAllowed, valuesAllowed, requestAllowed, marksOk, marksOther, backed}
+use Rattle.table.specs.Sound.{setsAllowed, baseStampsAllowed, valuesAllowed, requestAllowed, backed}
 use Rattle.table.specs.declared.data.Table.{Table}
-use Rattle.vote.specs.Data.{isOk, isOther, isUnmarked, isDeferred, isOpen, voteAt, requestAt, requestIn}
+use Rattle.table.proofs.Backing.{due-backed}
+use Rattle.vote.specs.Data.{isOk, isOther, isUnmarked, isDeferred, isOpen, voteAt, requestIn}
 use Rattle.vote.specs.Queue.{placeInQueue}
+use Rattle.vote.specs.Shape.{ShapedSite}
 use Rattle.vote.specs.Verdicts.{verdictDue, writesItem, writtenSite, ruled}
-use Rattle.vote.specs.Voters.{knows, votersKnown}
-use Rattle.vote.specs.declared.data.Mark.{Mark}
-use Rattle.vote.specs.declared.data.Mark.the-variants as mark
+use Rattle.vote.specs.Voters.{knows}
 use Rattle.vote.specs.declared.data.Request.{Request}
 use Rattle.vote.specs.declared.data.Site.{Site}
 use Rattle.vote.specs.declared.data.Verdict.{Verdict}
 use Rattle.vote.specs.declared.data.Verdict.the-variants as verdict
 use Rattle.vote.proofs.After.{CopiesOf, released-queue, ruled-queue-deferred, ruled-queue-other, ruled-accepted, ruled-other}
 use Rattle.vote.proofs.Fields.{ruled-keeps}
-use Rattle.vote.proofs.KnownVoters.{voters-number}
+use Rattle.vote.proofs.MarkKinds.{open-is, after-not-deferred, after-ok, after-other, request-in}
 use Rattle.vote.proofs.Queues.{waits-found, place-hit}
 use Rattle.vote.proofs.Said.{Says, markAfter, ruled-says}
-use Rattle.vote.proofs.Shapes.{ruled-shape}
-use Rattle.vote.proofs.VerdictsDue.{accepted-due, rejected-due, open-due}
+use Rattle.vote.proofs.Shapes.{ruled-shape, shaped-as}
+use Rattle.vote.proofs.VerdictsDue.{open-due}
 use Rattle.vote.proofs.Writes.{written-stamp, written-value, writes-facts}
 use Rattle.upkeep.specs.But.{HoldingBut, SoundBut}
 use Rattle.upkeep.proofs.Carried.{Grown, SiteRight, backed-grown, right-carried}
 use Rattle.upkeep.proofs.Lifting.{At, Fine, FineBut, Changed, held-at, right-at, fine-whole, later-changed, grown-changed, lifted}
-use Rattle.upkeep.proofs.Places.{shaped-as}
 use Rattle.upkeep.proofs.Queueing.{Queued, queued-means, queued-of, queued-same, queued-left}
-
-pub open-is : (d : Verdict) → isOpen d ≡ true → d ≡ verdict.Open
-open-is verdict.Open e = refl
-open-is verdict.Accepted e = clash e refl
-open-is verdict.Rejected e = clash e refl
-
--- the request at a place below 16
-pub request-in : (rs : List Request) (p : ℕ) → p < 16 → requestIn rs p ≡ requestAt rs p
-unfolding requestIn
-request-in rs p h = rw (lt-ltb p 16 h)
 
 -- ---- the copies
 
@@ -101,29 +88,6 @@ written-right t s p g place used c =
           (by-test (w i) (λ y. rw y (λ z. absurd (used z))) (λ n. rw n (c .blank i h)));
     }
 
--- ---- the mark that a verdict leaves
-
-after-not-deferred : (m : Mark) → isDeferred (markAfter m) ≡ false
-after-not-deferred mark.None = refl
-after-not-deferred mark.Deferred = refl
-after-not-deferred mark.Ok = refl
-after-not-deferred mark.Dr = refl
-after-not-deferred mark.Rej = refl
-
-after-ok : (m : Mark) → isOk (markAfter m) ≡ isOk m
-after-ok mark.None = refl
-after-ok mark.Deferred = refl
-after-ok mark.Ok = refl
-after-ok mark.Dr = refl
-after-ok mark.Rej = refl
-
-after-other : (m : Mark) → isOther (markAfter m) ≡ isOther m
-after-other mark.None = refl
-after-other mark.Deferred = refl
-after-other mark.Ok = refl
-after-other mark.Dr = refl
-after-other mark.Rej = refl
-
 -- ---- at site k of t
 
 module _ (t : Table) (k : ℕ) (a : At t k) where
@@ -138,23 +102,9 @@ module _ (t : Table) (k : ℕ) (a : At t k) where
       let d = open-due (t .count) (s .oks) (s .others) p (open-is _ e) in
       fine-whole t k a p f (record { few-oks = λ o. d .0; few-others = λ o. d .1; unheard-oks = λ o u. clash u m; unheard-others = λ o u. clash u m })
 
-  -- a verdict that is due is backed: each voter known has that mark of its own
-  pub due-backed : {s : Site} (p : ℕ) → p < 16 → FineBut t k p s → backed (T s) p (verdictDue (t .count) (s .oks) (s .others) p) ≡ true
-  due-backed {s} p hp f = go (verdictDue (t .count) (s .oks) (s .others) p) refl
-    where
-      h : HoldingBut (T s) s k p
-      h = held-at t k a p hp (f .sound)
-
-      oks : votersKnown (s .oks) p ≤ number 7 (marksOk (T s) p)
-      oks = rw (voters-number (s .oks) p) (number-grows 7 (knows (s .oks) p) (marksOk (T s) p) (h .known-ok))
-
-      others : votersKnown (s .others) p ≤ number 7 (marksOther (T s) p)
-      others = rw (voters-number (s .others) p) (number-grows 7 (knows (s .others) p) (marksOther (T s) p) (h .known-other))
-
-      go : (d : Verdict) → verdictDue (t .count) (s .oks) (s .others) p ≡ d → backed (T s) p d ≡ true
-      go verdict.Open e = refl
-      go verdict.Accepted e = le-leb _ _ (let z = accepted-due (t .count) (s .oks) (s .others) p e in let y : majority (t .count) ≤ number 7 (marksOk (T s) p) = omega (arith, oks) in y)
-      go verdict.Rejected e = le-leb _ _ (let z = rejected-due (t .count) (s .oks) (s .others) p e .1 in let y : blocking (t .count) ≤ number 7 (marksOther (T s) p) = omega (arith, others) in y)
+  -- a verdict that is due there is backed
+  pub due-backed-at : {s : Site} (p : ℕ) → p < 16 → FineBut t k p s → backed (T s) p (verdictDue (t .count) (s .oks) (s .others) p) ≡ true
+  due-backed-at {s} p hp f = let h = held-at t k a p hp (f .sound) in due-backed (T s) p s (record { oks = h .known-ok; others = h .known-other })
 
   module _ (s : Site) (p : ℕ) (d : Verdict) (hp : p < 16) (f : FineBut t k p s) where
     abbrev s′ : Site

@@ -10,6 +10,7 @@ use Rattle.kit.proofs.Bools.{clash, and-left, and-right, by-test, by-eq}
 use Rattle.table.specs.Places.{placeAt, markAt, withSite}
 use Rattle.table.specs.Sound.{marksOk, marksOther}
 use Rattle.table.specs.declared.data.Table.{Table}
+use Rattle.table.proofs.Nothing.{nothing-means}
 use Rattle.vote.specs.Consider.{markOf, defers}
 use Rattle.vote.specs.Data.{isOk, isOther, isUnmarked, isDeferred, isOpen, voteAt, withKnown}
 use Rattle.vote.specs.Queue.{queuedAt, leavesQueue}
@@ -17,21 +18,20 @@ use Rattle.vote.specs.Verdicts.{verdictDue}
 use Rattle.vote.specs.Voters.{knows, hasVoter, joinVoters}
 use Rattle.vote.specs.Voting.{withMark, voted, deferred, votedFromQueue}
 use Rattle.vote.specs.declared.consider.Outcome.{Outcome}
-use Rattle.vote.specs.declared.consider.Outcome.the-variants as outcome
 use Rattle.vote.specs.declared.data.Mark.{Mark}
 use Rattle.vote.specs.declared.data.Mark.the-variants as mark
 use Rattle.vote.specs.declared.data.Site.{Site}
 use Rattle.vote.specs.declared.data.Vote.{Vote}
 use Rattle.vote.proofs.After.{voted-oks, voted-others, voted-from-queue, deferred-queue}
 use Rattle.vote.proofs.Fields.{Kept, stays, may-change, voted-keeps, voted-from-keeps, deferred-keeps, leaves-keeps}
-use Rattle.vote.proofs.KnownVoters.{knows-joined-row, length-joinVoters}
+use Rattle.vote.proofs.KnownVoters.{knows-joined-row}
+use Rattle.vote.proofs.MarkKinds.{NoVote, vote-kind, unmarked-no-vote, deferred-no-vote, unmarked-not-deferred}
 use Rattle.vote.proofs.Queues.{Waits}
 use Rattle.vote.proofs.Said.{Says, voted-says, voted-from-says, deferred-says}
-use Rattle.vote.proofs.Shapes.{SameShape, voted-shape, voted-from-shape, deferred-shape}
+use Rattle.vote.proofs.Shapes.{SameShape, voted-shape, voted-from-shape, deferred-shape, shaped-as, joined-shape}
 use Rattle.upkeep.specs.But.{HoldingBut, SoundBut}
-use Rattle.upkeep.proofs.Carried.{Grown, SiteRight, backed-grown, right-carried, nothing-means}
+use Rattle.upkeep.proofs.Carried.{Grown, SiteRight, backed-grown, right-carried}
 use Rattle.upkeep.proofs.Lifting.{At, Fine, FineBut, Changed, site-in, here, held-at, right-at, nothing-at, fine-but, later-changed, grown-changed, lifted}
-use Rattle.upkeep.proofs.Places.{shaped-as}
 use Rattle.upkeep.proofs.Queueing.{Queued, queued-same, queued-joined, queued-left}
 use Rattle.upkeep.proofs.Ruling.{copies-right, queue-right, right-of, settled-fine}
 
@@ -41,17 +41,8 @@ use Rattle.upkeep.proofs.Ruling.{copies-right, queue-right, right-of, s
 pub record IsVote (m : Mark) : Type 0 where
   pub either : isOther m ≡ not (isOk m)
 
--- a mark that is none
-pub record NoVote (m : Mark) : Type 0 where
-  pub no-ok : isOk m ≡ false
-  pub no-other : isOther m ≡ false
-
 pub vote-of : (o : Outcome) → defers o ≡ false → IsVote (markOf o)
-vote-of outcome.Rej e = record { either = refl }
-vote-of outcome.DeferBase e = clash refl e
-vote-of outcome.Dr e = record { either = refl }
-vote-of outcome.DeferPending e = clash refl e
-vote-of outcome.Ok e = record { either = refl }
+vote-of o e = record { either = vote-kind o e }
 
 pub vote-not-deferred : (m : Mark) → IsVote m → isDeferred m ≡ false
 vote-not-deferred mark.None v = refl
@@ -66,27 +57,6 @@ vote-marked mark.Deferred v = refl
 vote-marked mark.Ok v = refl
 vote-marked mark.Dr v = refl
 vote-marked mark.Rej v = refl
-
-pub unmarked-no-vote : (m : Mark) → isUnmarked m ≡ true → NoVote m
-unmarked-no-vote mark.None e = record { no-ok = refl; no-other = refl }
-unmarked-no-vote mark.Deferred e = clash e refl
-unmarked-no-vote mark.Ok e = clash e refl
-unmarked-no-vote mark.Dr e = clash e refl
-unmarked-no-vote mark.Rej e = clash e refl
-
-pub deferred-no-vote : (m : Mark) → isDeferred m ≡ true → NoVote m
-deferred-no-vote mark.None e = clash e refl
-deferred-no-vote mark.Deferred e = record { no-ok = refl; no-other = refl }
-deferred-no-vote mark.Ok e = clash e refl
-deferred-no-vote mark.Dr e = clash e refl
-deferred-no-vote mark.Rej e = clash e refl
-
-pub unmarked-not-deferred : (m : Mark) → isUnmarked m ≡ true → isDeferred m ≡ false
-unmarked-not-deferred mark.None e = refl
-unmarked-not-deferred mark.Deferred e = clash e refl
-unmarked-not-deferred mark.Ok e = refl
-unmarked-not-deferred mark.Dr e = refl
-unmarked-not-deferred mark.Rej e = refl
 
 -- ---- a vote, whether from the queue or not
 
@@ -302,14 +272,7 @@ module _ (t : Table) (k : ℕ) (a : At t k) where
       → ((u : ℕ) → u < 7 → hasVoter oks u ≡ true → marksOk (T s) p u ≡ true) → ((u : ℕ) → u < 7 → hasVoter others u ≡ true → marksOther (T s) p u ≡ true)
       → FineBut t k p (withKnown (joinVoters (s .oks) p oks) (joinVoters (s .others) p others) s)
   joined-fine s p oks others hp used f mo mx = record {
-    shaped = record {
-      stamps = f .shaped .stamps;
-      values = f .shaped .values;
-      queue = f .shaped .queue;
-      votes = f .shaped .votes;
-      oks = length-joinVoters (s .oks) p oks ∙ f .shaped .oks;
-      others = length-joinVoters (s .others) p others ∙ f .shaped .others;
-    };
+    shaped = shaped-as (joined-shape s p oks others) (f .shaped);
     sound = lifted t k a p s more changed hp used (f .sound)
         (right-carried refl (later-changed t k a p s more changed) (right-of (queued-same (queue-right (f .shaped) right) (record { queue = refl; waiting = refl }) (λ x h. refl)) (copies-right right))) held;
   }

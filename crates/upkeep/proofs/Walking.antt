@@ -23,7 +23,7 @@ use Rattle.walk.specs.Rules.{Walk}
 use Rattle.walk.specs.Walking.{Out, queued, outcomeAt, votedAt, dueAt, walked, resolved}
 use Rattle.walk.proofs.Walks.{follows}
 use Rattle.upkeep.proofs.Lifting.{At, Fine, FineBut, quiet-at, fine-but}
-use Rattle.upkeep.proofs.Ruling.{settled-fine, due-backed, ruled-fine}
+use Rattle.upkeep.proofs.Ruling.{settled-fine, due-backed-at, ruled-fine}
 use Rattle.upkeep.proofs.Voting.{vote-of, vote-marked, voted-fine, voted-from-fine, voted-from-marked, queued-below, queued-used, deferred-fine, joined-fine}
 
 module _ (t : Table) (k : ℕ) (a : At t k) where
@@ -49,7 +49,7 @@ module _ (t : Table) (k : ℕ) (a : At t k) where
       let v = vote-of (outcomeAt k n rs s i) e in
       let b = voted-from-fine t k a s i f h (markOf (outcomeAt k n rs s i)) v in
       let hp = queued-below t k a s i f h in
-      walk-fine w (ruled-fine t k a (votedAt k n rs s i) (queued s i) (dueAt k n rs s i) hp (queued-used t k a s i f h) b d (due-backed t k a (queued s i) hp b))
+      walk-fine w (ruled-fine t k a (votedAt k n rs s i) (queued s i) (dueAt k n rs s i) hp (queued-used t k a s i f h) b d (due-backed-at t k a (queued s i) hp b))
 
   pub walked-fine : (s : Site) (i : ℕ) → Fine t k s → Fine t k (walked k n rs s i .site)
   walked-fine s i f = walk-fine (follows k n rs s i) f
@@ -64,7 +64,7 @@ module _ (t : Table) (k : ℕ) (a : At t k) where
     unfolding settled
     settled-walk-fine s f m =
         of-cond (λ (x : Out). Fine t k (x .site)) (isOpen (verdictDue n (s .oks) (s .others) p)) (λ e. settled-fine t k a p f e m)
-        (λ e. resolved-fine s (verdictDue n (s .oks) (s .others) p) f e (due-backed t k a p hp f))
+        (λ e. resolved-fine s (verdictDue n (s .oks) (s .others) p) f e (due-backed-at t k a p hp f))
 
     -- a request with no mark and no verdict due is considered
     pub taken-up-fine
@@ -92,7 +92,7 @@ module _ (t : Table) (k : ℕ) (a : At t k) where
           let b = joined-fine t k a s p oks others hp used (fine-but t k a p f) mo mx in
           of-cond (λ (x : Out). Fine t k (x .site)) (isOpen (verdictDue n (more .oks) (more .others) p))
           (λ e. of-cond (λ (x : Out). Fine t k (x .site)) (isUnmarked (voteAt (s .votes) p .mark)) (λ u. taken-up-fine more b o u e) (λ u. settled-fine t k a p b e u))
-          (λ e. resolved-fine more (verdictDue n (more .oks) (more .others) p) b e (due-backed t k a p hp b))
+          (λ e. resolved-fine more (verdictDue n (more .oks) (more .others) p) b e (due-backed-at t k a p hp b))
 
       pub received-fine : (sent : Verdict) → backed (T s) p sent ≡ true → Fine t k (received k n rs s p sent oks others .site)
       unfolding received

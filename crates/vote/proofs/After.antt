@@ -1,5 +1,5 @@
 -- The queue, the known voters and the copies that a site has after each change.
-use mathlib.Core.Path.{_≡_, refl, ap, ap₂, _∙_}
+use mathlib.Core.Path.{_≡_, refl, sym, ap, ap₂, _∙_}
 use mathlib.Core.Bool.{Bool, true, false, not, _&&_, _||_, cond, or-false}
 use mathlib.Core.List.{List}
 use Prim.Native.Nat.{ℕ, _+_, _-_, _<_, _≤_}
@@ -32,6 +32,12 @@ use Rattle.vote.proofs.Queues.{Waits, Once, Tidy}
 pub record QueueOf (u t : Site) : Type 0 where
   pub queue : t .queue ≡ u .queue
   pub waiting : t .waiting ≡ u .waiting
+
+pub queue-back : {u t : Site} → QueueOf u t → QueueOf t u
+queue-back q = record { queue = sym (q .queue); waiting = sym (q .waiting) }
+
+pub queue-then : {u t w : Site} → QueueOf u t → QueueOf t w → QueueOf u w
+queue-then q r = record { queue = r .queue ∙ q .queue; waiting = r .waiting ∙ q .waiting }
 
 -- so the same wait in it
 pub waits-of : {u t : Site} {x : ℕ} → QueueOf u t → Waits u x → Waits t x

@@ -7,6 +7,7 @@ use native.Mathlib.Nat.{le-antisymm}
 use borrow.Author.Tests.{ltb-true, ltb-false, lt-ltb}
 use lib.Dec.{ltb}
 use lib.ListN.{getD}
+use Rattle.kit.specs.Range.{any}
 use Rattle.kit.proofs.Bools.{and-left, and-right, both-true}
 use Rattle.kit.proofs.Ranges.{any-hit, any-at, any-one}
 use Rattle.sets.specs.Sets.{member}
@@ -36,36 +37,37 @@ module _ (base : ℕ) (based held : List ℕ) where
     pub in-base : member base item ≡ true
     pub older : getD held item 0 < getD based item 0
 
+  -- a base item of which the list a has less than the list b; and that there is none
+  less-item
+      : (a b : List ℕ) → any 24 (λ i. member base i && ltb (getD a i 0) (getD b i 0)) ≡ true
+      → (i : ℕ) × (i < 24) × (member base i ≡ true) × (getD a i 0 < getD b i 0)
+  less-item a b e =
+      let r = any-one 24 (λ i. member base i && ltb (getD a i 0) (getD b i 0)) e in
+      let m : Bool = member base (r .0) in
+      let l : Bool = ltb (getD a (r .0) 0) (getD b (r .0) 0) in
+      (r .0, r .1, and-left m l (r .2), ltb-true _ _ (and-right m l (r .2)))
+
+  none-less
+      : (a b : List ℕ) → any 24 (λ i. member base i && ltb (getD a i 0) (getD b i 0)) ≡ false → (i : ℕ) → i < 24 → member base i ≡ true
+      → getD b i 0 ≤ getD a i 0
+  none-less a b e i h m = ltb-false _ _ (rw m at (any-at (λ j. member base j && ltb (getD a j 0) (getD b j 0)) 24 i e h))
+
   pub newer-item : newerCopy base based held ≡ true → NewerItem
   unfolding newerCopy
-  newer-item e =
-      let r = any-one 24 (λ i. member base i && ltb (getD based i 0) (getD held i 0)) e in
-      record {
-        item = r .0;
-        below = r .1;
-        in-base = and-left (member base (r .0)) (ltb (getD based (r .0) 0) (getD held (r .0) 0)) (r .2);
-        newer = ltb-true _ _ (and-right (member base (r .0)) (ltb (getD based (r .0) 0) (getD held (r .0) 0)) (r .2));
-      }
+  newer-item e = let r = less-item based held e in record { item = r .0; below = r .1; in-base = r .2; newer = r .3 }
 
   pub older-item : olderCopy base based held ≡ true → OlderItem
   unfolding olderCopy
-  older-item e =
-      let r = any-one 24 (λ i. member base i && ltb (getD held i 0) (getD based i 0)) e in
-      record {
-        item = r .0;
-        below = r .1;
-        in-base = and-left (member base (r .0)) (ltb (getD held (r .0) 0) (getD based (r .0) 0)) (r .2);
-        older = ltb-true _ _ (and-right (member base (r .0)) (ltb (getD held (r .0) 0) (getD based (r .0) 0)) (r .2));
-      }
+  older-item e = let r = less-item held based e in record { item = r .0; below = r .1; in-base = r .2; older = r .3 }
 
   -- where none is newer, no base item's copy is above its base stamp
   pub not-newer : newerCopy base based held ≡ false → (i : ℕ) → i < 24 → member base i ≡ true → getD held i 0 ≤ getD based i 0
   unfolding newerCopy
-  not-newer e i h m = ltb-false _ _ (rw m at (any-at (λ j. member base j && ltb (getD based j 0) (getD held j 0)) 24 i e h))
+  not-newer = none-less based held
 
   pub not-older : olderCopy base based held ≡ false → (i : ℕ) → i < 24 → member base i ≡ true → getD based i 0 ≤ getD held i 0
   unfolding olderCopy
-  not-older e i h m = ltb-false _ _ (rw m at (any-at (λ j. member base j && ltb (getD held j 0) (getD based j 0)) 24 i e h))
+  not-older = none-less held based
 
 module _ (heads : List Head) (votes : List Vote) (q : Head) where
   -- a request that is pending and conflicts with q

@@ -1,6 +1,4 @@
 -- Laws of what one site does, each family in a file of its own.
-pub mod Tests
-pub mod Gathers
 pub mod Marks
 pub mod KnownVoters
 pub mod Rows
@@ -11,6 +9,7 @@ pub mod Conflicts
 pub mod Considering
 pub mod Fields
 pub mod Said
+pub mod MarkKinds
 pub mod After
 pub mod Shapes
 pub mod Cases

@@ -1,9 +1,9 @@
 -- A site's word on the request at a place, as the code writes it; `at` is the place as an index, and a place above 15 has none.
-use mathlib.Core.Path.{_≡_, sym, _∙_}
-use mathlib.Core.List.{List, map}
+use mathlib.Core.Path.{_≡_, sym}
+use mathlib.Core.List.{List}
 use Prim.Native.Nat.{ℕ, _<_, _≤_}
 use native.Mathlib.Omega.{arith}
-use lib.ListN.{length, set, length-map, List·getD-eq-default}
+use lib.ListN.{length, set, List·getD-eq-default}
 use lib.Seq.{set-out}
 use Rattle.vote.specs.Data.{noVote, voteAt, withVotes}
 use Rattle.vote.specs.Verdicts.{noted, withVerdict}
@@ -12,10 +12,6 @@ use Rattle.vote.specs.declared.data.Mark.{Mark}
 use Rattle.vote.specs.declared.data.Site.{Site}
 use Rattle.vote.specs.declared.data.Verdict.{Verdict}
 use Rattle.vote.specs.declared.data.Vote.{Vote}
-
--- an array of structs is as long as its image
-pub length-mapped : (X Y : Type 0) (f : X → Y) (l : List X) (n : ℕ) → length (map f l) ≡ n → length l ≡ n
-length-mapped X Y f l n e = sym (length-map l f) ∙ e
 
 pub vote-out : (votes : List Vote) {at p : ℕ} → length votes ≡ 16 → at ≡ p → 15 < at → noVote ≡ voteAt votes p
 vote-out votes l e h = sym (List·getD-eq-default votes noVote (omega arith))

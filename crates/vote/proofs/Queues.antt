@@ -1,7 +1,7 @@
 -- A site's queue of deferred requests: what the code makes of it, and what stands where afterwards.
 use mathlib.Core.Path.{_≡_, refl, sym, ap, _∙_}
-use mathlib.Core.List.{List, [], _∷_}
-use Prim.Native.Nat.{ℕ, zero, suc, _+_, _-_, _≤_, _<_}
+use mathlib.Core.List.{List}
+use Prim.Native.Nat.{ℕ, suc, _+_, _-_, _≤_, _<_}
 use native.Mathlib.Omega.{arith}
 use borrow.Author.Tests.{lt-ltb, le-ltb, eq-eqb, ne-eqb, eqb-true}
 use lib.Dec.{eqb}
@@ -10,7 +10,7 @@ use lib.Seq.{getD-set-same, getD-set-other}
 use Rattle.kit.specs.Lists.{without}
 use Rattle.kit.specs.Range.{any, first}
 use Rattle.kit.proofs.Bools.{by-test, by-eq, by-lt}
-use Rattle.kit.proofs.Queues.{skip, skip-after, skip-in, skip-once, skip-back, without-at, length-without}
+use Rattle.kit.proofs.Queues.{skip, skip-after, skip-in, skip-once, skip-back, without-at, length-without, without-none}
 use Rattle.kit.proofs.Ranges.{any-hit, none-of, first-le, first-hit, first-none}
 use Rattle.vote.specs.Data.{withQueue}
 use Rattle.vote.specs.Queue.{queuedAt, joinsQueue, leavesQueue, placeInQueue}
@@ -36,13 +36,6 @@ leaves-empty s i e = rw (eq-eqb (s .waiting) 0 e)
 pub leaves-some : (s : Site) (i : ℕ) {l : List ℕ} → (s .waiting ≡ 0 → ⊥) → l ≡ without 0 (s .queue) i → withQueue l (s .waiting - 1) s ≡ leavesQueue s i
 unfolding leavesQueue
 leaves-some s i ne e = rw (ne-eqb (s .waiting) 0 ne, e)
-
--- a place behind the end is no place
-pub without-none : (l : List ℕ) (i : ℕ) → length l ≤ i → l ≡ without 0 l i
-unfolding without
-without-none [] i h = refl
-without-none (a ∷ l) zero h = absurd (let z : ⊥ = omega arith in z)
-without-none (a ∷ l) (suc i) h = ap (λ (m : List ℕ). a ∷ m) (without-none l i (omega arith))
 
 -- ---- one more at the end
 
@@ -83,15 +76,15 @@ module _ (s : Site) (i : ℕ) where
   unfolding leavesQueue
   waiting-left h = rw (ne-eqb (s .waiting) 0 (λ e. omega arith))
 
-  -- what stands at place k stood at place `skip 0 i k`
-  pub left-at : (k : ℕ) → 0 < s .waiting → queuedAt (leavesQueue s i .queue) k ≡ queuedAt (s .queue) (skip {A = ℕ} 0 i k)
+  -- what stands at place k stood at place `skip i k`
+  pub left-at : (k : ℕ) → 0 < s .waiting → queuedAt (leavesQueue s i .queue) k ≡ queuedAt (s .queue) (skip i k)
   left-at k h = rw (queue-left h) (without-at 0 (s .queue) i k)
 
   pub length-left : length (leavesQueue s i .queue) ≡ length (s .queue)
   length-left =
       by-eq (s .waiting) 0 (λ e. ap (λ (t : Site). length (t .queue)) (sym (leaves-empty s i e)))
       (λ ne. rw (queue-left (omega (arith, ne)))
-      (by-lt i (length (s .queue)) (λ h. length-without 0 (s .queue) i h) (λ h. ap length (sym (without-none (s .queue) i h)))))
+      (by-lt i (length (s .queue)) (λ h. length-without 0 (s .queue) i h) (λ h. ap length (sym (without-none 0 (s .queue) i h)))))
 
 -- ---- where a request stands
 
@@ -180,18 +173,18 @@ module _ (s : Site) (i : ℕ) (h : i < s .waiting) where
   pub waits-left-before : (x : ℕ) → Waits (leavesQueue s i) x → Waits s x
   waits-left-before x w =
       let k : w .place < s .waiting - 1 = rw (← waiting-left s i some) (w .inside) in
-      record { place = skip {A = ℕ} 0 i (w .place); inside = skip-in {A = ℕ} 0 i (w .place) (s .waiting) h k .0; there = sym (left-at s i (w .place) some) ∙ w .there }
+      record { place = skip i (w .place); inside = skip-in i (w .place) (s .waiting) h k .0; there = sym (left-at s i (w .place) some) ∙ w .there }
 
   pub waits-gone : Once s → Waits (leavesQueue s i) (queuedAt (s .queue) i) → ⊥
   waits-gone o w =
       let k : w .place < s .waiting - 1 = rw (← waiting-left s i some) (w .inside) in
-      let b = skip-in {A = ℕ} 0 i (w .place) (s .waiting) h k in
-      b .1 (o .once (skip {A = ℕ} 0 i (w .place)) i (b .0) h (sym (left-at s i (w .place) some) ∙ w .there))
+      let b = skip-in i (w .place) (s .waiting) h k in
+      b .1 (o .once (skip i (w .place)) i (b .0) h (sym (left-at s i (w .place) some) ∙ w .there))
 
   -- all others still wait
   pub waits-left : (x : ℕ) → (x ≡ queuedAt (s .queue) i → ⊥) → Waits s x → Waits (leavesQueue s i) x
   waits-left x ne w =
-      let b = skip-back {A = ℕ} 0 i (w .place) (s .waiting) h (w .inside) (λ e. ne (sym (w .there) ∙ ap (queuedAt (s .queue)) e)) in
+      let b = skip-back i (w .place) (s .waiting) h (w .inside) (λ e. ne (sym (w .there) ∙ ap (queuedAt (s .queue)) e)) in
       record { place = b .0; inside = rw (waiting-left s i some) (b .1); there = left-at s i (b .0) some ∙ ap (queuedAt (s .queue)) (b .2) ∙ w .there }
 
   pub once-left : Once s → Once (leavesQueue s i)
@@ -199,8 +192,8 @@ module _ (s : Site) (i : ℕ) (h : i < s .waiting) where
     where
       go : (j k : ℕ) → j < s .waiting - 1 → k < s .waiting - 1 → queuedAt (leavesQueue s i .queue) j ≡ queuedAt (leavesQueue s i .queue) k → j ≡ k
       go j k hj hk e =
-          skip-once {A = ℕ} 0 i j k
-          (o .once (skip {A = ℕ} 0 i j) (skip {A = ℕ} 0 i k) (skip-in {A = ℕ} 0 i j (s .waiting) h hj .0) (skip-in {A = ℕ} 0 i k (s .waiting) h hk .0)
+          skip-once i j k
+          (o .once (skip i j) (skip i k) (skip-in i j (s .waiting) h hj .0) (skip-in i k (s .waiting) h hk .0)
           (sym (left-at s i j some) ∙ e ∙ left-at s i k some))
 
 -- ---- blank behind the end
@@ -216,5 +209,5 @@ tidy-joined s p room t = record {
 pub tidy-left : (s : Site) (i : ℕ) → i < s .waiting → Tidy s → Tidy (leavesQueue s i)
 tidy-left s i h t = record {
   blank = λ k l. let b : s .waiting - 1 ≤ k = rw (← waiting-left s i (omega arith)) l in
-      left-at s i k (omega arith) ∙ ap (queuedAt (s .queue)) (skip-after {A = ℕ} 0 i k (omega arith)) ∙ t .blank (suc k) (omega arith);
+      left-at s i k (omega arith) ∙ ap (queuedAt (s .queue)) (skip-after i k (omega arith)) ∙ t .blank (suc k) (omega arith);
 }

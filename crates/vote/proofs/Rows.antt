@@ -11,7 +11,8 @@ use lib.Seq.{set-out}
 use Rattle.kit.specs.Range.{number, implies}
 use Rattle.kit.proofs.Bools.{by-lt}
 use Rattle.kit.proofs.Listings.{listed-at}
-use Rattle.kit.proofs.Ranges.{any-at, none-of, length-passing}
+use Rattle.kit.proofs.Passing.{length-passing}
+use Rattle.kit.proofs.Ranges.{any-at, none-of}
 use Rattle.vote.specs.Voters.{knows, votersOf, hasVoter, votersFor, noVoters, voterList, votersIn, noneKnown, clearUpTo, clearVoters, noRow}
 
 -- ---- as the code asks

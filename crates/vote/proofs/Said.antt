@@ -43,7 +43,8 @@ says-kept y e = record { here = rw e (y .here); elsewhere = λ q ne. rw e (y .el
 kept-says : {p : ℕ} {v : Vote} {s t u : Site} → t .votes ≡ s .votes → Says p v t u → Says p v s u
 kept-says e y = record { here = y .here; elsewhere = λ q ne. rw (← e) (y .elsewhere q ne); long = rw (← e) (y .long) }
 
-says-then : {p : ℕ} {v w : Vote} {s t u : Site} → Says p v s t → Says p w t u → Says p w s u
+-- one change after the other at one place
+pub says-then : {p : ℕ} {v w : Vote} {s t u : Site} → Says p v s t → Says p w t u → Says p w s u
 says-then y z = record { here = z .here; elsewhere = λ q ne. z .elsewhere q ne ∙ y .elsewhere q ne; long = z .long ∙ y .long }
 
 says-same : {p : ℕ} {v w : Vote} {s t : Site} → v ≡ w → Says p v s t → Says p w s t

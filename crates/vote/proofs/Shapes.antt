@@ -1,15 +1,18 @@
 -- No change of a site makes one of its lists longer or shorter.
 use mathlib.Core.Path.{_≡_, refl, ap, _∙_}
+use mathlib.Core.Bool.{Bool}
+use mathlib.Core.List.{List}
 use Prim.Native.Nat.{ℕ}
 use lib.Dec.{ltb}
 use lib.ListN.{length, length-set}
 use Rattle.kit.proofs.Bools.{of-cond}
 use Rattle.kit.proofs.Changes.{length-changed}
 use Rattle.vote.specs.Consider.{markOf, defers}
-use Rattle.vote.specs.Data.{isOk, isDeferred, voteAt}
+use Rattle.vote.specs.Data.{isOk, isDeferred, voteAt, withKnown}
 use Rattle.vote.specs.Queue.{joinsQueue, leavesQueue, placeInQueue}
+use Rattle.vote.specs.Shape.{ShapedSite}
 use Rattle.vote.specs.Verdicts.{newStamp, newValue, writtenUpTo, writtenSite, released, withVerdict, noted, decided, ruled}
-use Rattle.vote.specs.Voters.{onlyVoter}
+use Rattle.vote.specs.Voters.{onlyVoter, joinVoters}
 use Rattle.vote.specs.Voting.{withMark, marked, countsItself, voted, deferred, keptOutcome, votedFromQueue}
 use Rattle.vote.specs.declared.consider.Outcome.{Outcome}
 use Rattle.vote.specs.declared.data.Mark.{Mark}
@@ -18,7 +21,7 @@ use Rattle.vote.specs.declared.data.Request.{Request}
 use Rattle.vote.specs.declared.data.Site.{Site}
 use Rattle.vote.specs.declared.data.Verdict.{Verdict}
 use Rattle.vote.specs.declared.data.Verdict.the-variants as verdict
-use Rattle.vote.proofs.Fields.{joins-keeps, leaves-keeps}
+use Rattle.vote.proofs.Fields.{Kept, stays, may-change, joins-keeps, leaves-keeps}
 use Rattle.vote.proofs.KnownVoters.{length-joinVoters}
 use Rattle.vote.proofs.Queues.{length-joined, length-left}
 
@@ -31,9 +34,6 @@ pub record SameShape (s t : Site) : Type 0 where
   pub oks : length (t .oks) ≡ length (s .oks)
   pub others : length (t .others) ≡ length (s .others)
 
-shape-same : (s : Site) → SameShape s s
-shape-same s = record { stamps = refl; values = refl; queue = refl; votes = refl; oks = refl; others = refl }
-
 pub shape-then : {s t u : Site} → SameShape s t → SameShape t u → SameShape s u
 shape-then a b = record {
   stamps = b .stamps ∙ a .stamps;
@@ -42,6 +42,17 @@ shape-then a b = record {
   votes = b .votes ∙ a .votes;
   oks = b .oks ∙ a .oks;
   others = b .others ∙ a .others;
+}
+
+-- so where the lists of s have their lengths, those of t have
+pub shaped-as : {s t : Site} → SameShape s t → ShapedSite s → ShapedSite t
+shaped-as a b = record {
+  stamps = a .stamps ∙ b .stamps;
+  values = a .values ∙ b .values;
+  queue = a .queue ∙ b .queue;
+  votes = a .votes ∙ b .votes;
+  oks = a .oks ∙ b .oks;
+  others = a .others ∙ b .others;
 }
 
 module _ (s : Site) where
@@ -66,29 +77,33 @@ module _ (s : Site) where
     others = refl;
   }
 
+  -- a change of the queue alone
+  queue-shape : {t : Site} → Kept stays may-change stays stays s t → length (t .queue) ≡ length (s .queue) → SameShape s t
+  queue-shape k q = record {
+    stamps = ap length (k .stamps);
+    values = ap length (k .values);
+    queue = q;
+    votes = ap length (k .votes);
+    oks = ap length (k .oks);
+    others = ap length (k .others);
+  }
+
   pub joins-shape : (p : ℕ) → SameShape s (joinsQueue s p)
-  joins-shape p =
-      let k = joins-keeps s p in
-      record {
-        stamps = ap length (k .stamps);
-        values = ap length (k .values);
-        queue = length-joined s p;
-        votes = ap length (k .votes);
-        oks = ap length (k .oks);
-        others = ap length (k .others);
-      }
+  joins-shape p = queue-shape (joins-keeps s p) (length-joined s p)
 
   pub leaves-shape : (i : ℕ) → SameShape s (leavesQueue s i)
-  leaves-shape i =
-      let k = leaves-keeps s i in
-      record {
-        stamps = ap length (k .stamps);
-        values = ap length (k .values);
-        queue = length-left s i;
-        votes = ap length (k .votes);
-        oks = ap length (k .oks);
-        others = ap length (k .others);
-      }
+  leaves-shape i = queue-shape (leaves-keeps s i) (length-left s i)
+
+  -- voters joined to those known
+  pub joined-shape : (p : ℕ) (oks others : List Bool) → SameShape s (withKnown (joinVoters (s .oks) p oks) (joinVoters (s .others) p others) s)
+  joined-shape p oks others = record {
+    stamps = refl;
+    values = refl;
+    queue = refl;
+    votes = refl;
+    oks = length-joinVoters (s .oks) p oks;
+    others = length-joinVoters (s .others) p others;
+  }
 
   counts-shape : (me p : ℕ) (m : Mark) → SameShape s (countsItself me s p m)
   unfolding countsItself

@@ -10,6 +10,7 @@ use lib.ListN.{getD}
 use Rattle.kit.proofs.Bools.{by-test}
 use Rattle.vote.specs.Consider.{markOf, defers}
 use Rattle.vote.specs.Data.{requestIn}
+use Rattle.vote.specs.Shape.{ShapedSite}
 use Rattle.vote.specs.Verdicts.{writesItem, writtenSite, ruled}
 use Rattle.vote.specs.declared.data.Mark.{Mark}
 use Rattle.vote.specs.declared.data.Request.{Request}
@@ -20,7 +21,7 @@ use Rattle.vote.proofs.After.{CopiesOf, ruled-accepted, ruled-other}
 use Rattle.vote.proofs.Fields.{deferred-keeps, voted-keeps, voted-from-keeps}
 use Rattle.vote.proofs.Writes.{written-stamp, written-value}
 use Rattle.walk.specs.Hearing.{outcomeOf, takenUp, received}
-use Rattle.walk.specs.Order.{ShapedSite, InOrder}
+use Rattle.walk.specs.Order.{InOrder}
 use Rattle.walk.specs.Walking.{queued, outcomeAt, votedAt, dueAt, walked, resolved}
 use Rattle.walk.proofs.HearingInductions.{New, votedOn, joinedOn, dueOn, ruledOn, ConsideringKeeps, HearingKeeps, taken-kept, received-kept}
 use Rattle.walk.proofs.Inductions.{Turn, Keeps, walked-kept}

@@ -21,6 +21,7 @@ use Rattle.vote.specs.declared.data.Verdict.the-variants as verdict
 use Rattle.vote.specs.declared.data.Vote.{Vote}
 use Rattle.vote.proofs.After.{ruled-accepted, ruled-other}
 use Rattle.vote.proofs.Fields.{deferred-keeps, voted-keeps, voted-from-keeps, ruled-keeps}
+use Rattle.vote.proofs.MarkKinds.{unmarked-is}
 use Rattle.vote.proofs.Said.{Says, deferred-says, voted-says, voted-from-says, ruled-says}
 use Rattle.vote.proofs.Writes.{stamps-rise}
 use Rattle.walk.specs.Hearing.{outcomeOf, takenUp, received}
@@ -29,7 +30,7 @@ use Rattle.walk.specs.Walking.{queued, outcomeAt, votedAt, ruledAt, dueA
 use Rattle.walk.proofs.HearingInductions.{New, votedOn, joinedOn, dueOn, ruledOn, ConsideringGrows, HearingGrows, taken-grown, received-grown}
 use Rattle.walk.proofs.Inductions.{Turn, Grows, walked-grown}
 use Rattle.walk.proofs.Orders.{in-order-turns, in-order-considering, in-order-hearing, in-order-ruled, in-order-voted, in-order-voted-from, in-order-joined}
-use Rattle.walk.proofs.TurnLaws.{outcome-votes, vote-not-deferred, is-unmarked, after-not, says-mark, says-verdict, mark-elsewhere, verdict-elsewhere, turn-open, turn-vote, turn-place, turn-voted}
+use Rattle.walk.proofs.TurnLaws.{outcome-votes, vote-not-deferred, after-not, says-mark, says-verdict, mark-elsewhere, verdict-elsewhere, turn-open, turn-vote, turn-place, turn-voted}
 
 -- ---- one after the other
 
@@ -68,7 +69,7 @@ no-vote : {m : Mark} {A : Type 0} → m ≡ mark.Deferred → isVote m ≡ true 
 no-vote e h = clash h (ap isVote e)
 
 unmarked-no-vote : (m : Mark) {A : Type 0} → isUnmarked m ≡ true → isVote m ≡ true → A
-unmarked-no-vote m e h = clash h (ap isVote (is-unmarked m e))
+unmarked-no-vote m e h = clash h (ap isVote (unmarked-is m e))
 
 -- ---- the copies
 

@@ -1,7 +1,6 @@
 -- Laws of the walk, each family in a file of its own.
 mod Turns
 mod Hearings
-mod Rooms
 pub mod Walks
 pub mod Inductions
 pub mod HearingInductions

@@ -13,6 +13,7 @@ use Rattle.vote.specs.declared.data.Request.{Request}
 use Rattle.vote.specs.declared.data.Site.{Site}
 use Rattle.vote.specs.declared.data.Verdict.{Verdict}
 use Rattle.vote.specs.declared.data.Vote.{Vote}
+use Rattle.vote.proofs.MarkKinds.{unmarked-is}
 use Rattle.vote.proofs.Said.{Says, ruled-says}
 use Rattle.walk.specs.Hearing.{outcomeOf, takenUp, received}
 use Rattle.walk.specs.Order.{markAt, verdictAt, isVote, InOrder, SaidStays, Each, NewAt, HoldsAt, OfDeferred, Apart, NoneTwice, LogOf}
@@ -21,7 +22,7 @@ use Rattle.walk.proofs.HearingInductions.{New, votedOn, joinedOn, dueOn
 use Rattle.walk.proofs.Inductions.{Turn, Links, walked-linked}
 use Rattle.walk.proofs.Laters.{stays-then, later-deferred, later-joined, later-ruled, turn-later, turn-still-open, turn-ruled-later, voted-on-says, voted-on-later, voted-on-open, voted-on-order}
 use Rattle.walk.proofs.Orders.{in-order-turns, in-order-considering, in-order-hearing, in-order-ruled, in-order-joined}
-use Rattle.walk.proofs.TurnLaws.{outcome-votes, is-unmarked, says-mark, says-verdict, mark-elsewhere, turn-deferred, turn-vote, turn-not-deferred, turn-voted, turn-ruled}
+use Rattle.walk.proofs.TurnLaws.{outcome-votes, says-mark, says-verdict, mark-elsewhere, turn-deferred, turn-vote, turn-not-deferred, turn-voted, turn-ruled}
 
 -- ---- each
 
@@ -141,7 +142,7 @@ module _ (me n : ℕ) (rs : List Request) where
         : {s : Site} {l : List Said} {u : Site} → New s p → defers (outcomeOf me n rs s p) ≡ false → InOrder s → Tells (votedOn me n rs s p) l u
         → Tells s (saysVoteOn me n rs s p ∷ l) u
     voted-on-tells {s} new e o r =
-        tells-more (saysVoteOn me n rs s p) (ap isVote (is-unmarked (markAt s p) (new .unmarked)))
+        tells-more (saysVoteOn me n rs s p) (ap isVote (unmarked-is (markAt s p) (new .unmarked)))
         (outcome-votes (outcomeOf me n rs s p) e, says-mark (voted-on-says me n rs p h new e o)) (voted-on-later me n rs p h new e o .said) r
 
     tells-considering : ConsideringLinks me n rs p InOrder Tells

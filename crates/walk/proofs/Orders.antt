@@ -9,6 +9,7 @@ use Rattle.kit.proofs.Bools.{clash, by-eq, by-test, of-cond}
 use Rattle.vote.specs.Consider.{markOf, defers}
 use Rattle.vote.specs.Data.{isOpen, isUnmarked, isDeferred, requestIn}
 use Rattle.vote.specs.Queue.{leavesQueue, placeInQueue}
+use Rattle.vote.specs.Shape.{ShapedSite}
 use Rattle.vote.specs.Verdicts.{ruled}
 use Rattle.vote.specs.Voting.{voted, deferred, votedFromQueue}
 use Rattle.vote.specs.declared.data.Mark.{Mark}
@@ -17,31 +18,19 @@ use Rattle.vote.specs.declared.data.Request.{Request}
 use Rattle.vote.specs.declared.data.Site.{Site}
 use Rattle.vote.specs.declared.data.Verdict.{Verdict}
 use Rattle.vote.specs.declared.data.Vote.{Vote}
-use Rattle.vote.proofs.After.{QueueOf, deferred-queue, voted-from-queue, released-queue, ruled-queue-deferred, ruled-queue-other}
+use Rattle.vote.proofs.After.{QueueOf, deferred-queue, voted-from-queue, released-queue, ruled-queue-deferred, ruled-queue-other, queue-then}
 use Rattle.vote.proofs.Fields.{voted-keeps}
-use Rattle.vote.proofs.KnownVoters.{length-joinVoters}
+use Rattle.vote.proofs.MarkKinds.{deferred-is, unmarked-is, after-not-deferred}
 use Rattle.vote.proofs.Queues.{place-hit, waits-found}
 use Rattle.vote.proofs.Said.{Says, deferred-says, voted-says, voted-from-says, ruled-says}
-use Rattle.vote.proofs.Shapes.{SameShape, deferred-shape, voted-shape, voted-from-shape, ruled-shape}
+use Rattle.vote.proofs.Shapes.{SameShape, deferred-shape, voted-shape, voted-from-shape, ruled-shape, shaped-as, joined-shape}
 use Rattle.walk.specs.Hearing.{outcomeOf, settled, takenUp, received}
-use Rattle.walk.specs.Order.{ShapedSite, markAt, verdictAt, DeferredOpen, InOrder, isVote}
+use Rattle.walk.specs.Order.{markAt, verdictAt, DeferredOpen, InOrder, isVote}
 use Rattle.walk.specs.Walking.{Out, walked, resolved, queued}
 use Rattle.walk.proofs.HearingInductions.{New, votedOn, joinedOn, dueOn, ConsideringKeeps, HearingKeeps, taken-kept, received-kept}
 use Rattle.walk.proofs.Inductions.{Keeps, walked-kept}
-use Rattle.walk.proofs.Queued.{orderly-out, orderly-same, orderly-in, orderly-kept, deferred-waits, queue-then, room, blank-out, blank-same, blank-in}
-use Rattle.walk.proofs.TurnLaws.{outcome-votes, vote-not-deferred, is-deferred, is-unmarked, after-not-deferred, says-mark, says-verdict, mark-elsewhere, verdict-elsewhere, turn-voted, turn-ruled, turn-left, turn-ruled-left, turn-not-deferred, turn-shape, turn-ruled-shape}
-
--- ---- lengths
-
-pub shaped-of : {s t : Site} → SameShape s t → ShapedSite s → ShapedSite t
-shaped-of e h = record {
-  stamps = e .stamps ∙ h .stamps;
-  values = e .values ∙ h .values;
-  queue = e .queue ∙ h .queue;
-  votes = e .votes ∙ h .votes;
-  oks = e .oks ∙ h .oks;
-  others = e .others ∙ h .others;
-}
+use Rattle.walk.proofs.Queued.{orderly-out, orderly-same, orderly-in, orderly-kept, deferred-waits, room, blank-out, blank-same, blank-in}
+use Rattle.walk.proofs.TurnLaws.{outcome-votes, vote-not-deferred, says-mark, says-verdict, mark-elsewhere, verdict-elsewhere, turn-voted, turn-ruled, turn-left, turn-ruled-left, turn-not-deferred, turn-shape, turn-ruled-shape}
 
 -- ---- deferred and open
 
@@ -79,7 +68,7 @@ module _ {s t : Site} {p : ℕ} {v : Vote} (o : InOrder s) (e : SameShape s t) (
   -- p stood at place i of the queue and left it
   pub in-order-out : {i : ℕ} → i < s .waiting → queued s i ≡ p → QueueOf (leavesQueue s i) t → InOrder t
   in-order-out h at q = record {
-    shaped = shaped-of e (o .shaped);
+    shaped = shaped-as e (o .shaped);
     queue = orderly-out (o .queue) y h at q f;
     end = blank-out (o .end) h q;
     deferred = deferred-open-says y (λ z. no-deferral f z) (o .deferred);
@@ -88,7 +77,7 @@ module _ {s t : Site} {p : ℕ} {v : Vote} (o : InOrder s) (e : SameShape s t) (
   -- p was not in the queue and is not
   pub in-order-same : QueueOf s t → isDeferred (markAt s p) ≡ false → InOrder t
   in-order-same q g = record {
-    shaped = shaped-of e (o .shaped);
+    shaped = shaped-as e (o .shaped);
     queue = orderly-same (o .queue) y q g f;
     end = blank-same (o .end) q;
     deferred = deferred-open-says y (λ z. no-deferral f z) (o .deferred);
@@ -101,14 +90,14 @@ module _ {s : Site} (o : InOrder s) (p : ℕ) (h : p < 16) where
   held = rw (o .shaped .votes) h
 
   not-deferred : isUnmarked (markAt s p) ≡ true → isDeferred (markAt s p) ≡ false
-  not-deferred e = ap isDeferred (is-unmarked (markAt s p) e)
+  not-deferred e = ap isDeferred (unmarked-is (markAt s p) e)
 
   -- a request that had no mark is deferred
   pub in-order-deferred : isUnmarked (markAt s p) ≡ true → isOpen (verdictAt s p) ≡ true → InOrder (deferred s p)
   in-order-deferred e f =
       let y = deferred-says s p held in
       record {
-        shaped = shaped-of (deferred-shape s p) (o .shaped);
+        shaped = shaped-as (deferred-shape s p) (o .shaped);
         queue = orderly-in (o .queue) y h (o .shaped .queue) (deferred-queue s p) (not-deferred e) refl;
         end = blank-in p (o .end) (room (o .queue) h (not-deferred e)) (deferred-queue s p);
         deferred = deferred-open-says y (λ z. f) (o .deferred);
@@ -129,7 +118,7 @@ module _ {s : Site} (o : InOrder s) (p : ℕ) (h : p < 16) where
   pub in-order-ruled : (q : Request) (d : Verdict) → InOrder (ruled s q p d)
   in-order-ruled q d =
       by-test (isDeferred (markAt s p))
-      (λ e. let k : placeInQueue (s .queue) (s .waiting) p < s .waiting = waits-found s p (deferred-waits (o .queue) h (is-deferred (markAt s p) e)) in
+      (λ e. let k : placeInQueue (s .queue) (s .waiting) p < s .waiting = waits-found s p (deferred-waits (o .queue) h (deferred-is (markAt s p) e)) in
       in-order-out o (ruled-shape s q p d) (ruled-says s q p d held) (after-not-deferred (markAt s p)) k (place-hit (s .queue) (s .waiting) p k)
       (queue-then (released-queue s p k) (ruled-queue-deferred s p q d e)))
       (λ f. in-order-same o (ruled-shape s q p d) (ruled-says s q p d held) (after-not-deferred (markAt s p)) (ruled-queue-other s p q d f) f)
@@ -137,14 +126,7 @@ module _ {s : Site} (o : InOrder s) (p : ℕ) (h : p < 16) where
   -- voters are joined to those known
   pub in-order-joined : (oks others : List Bool) → InOrder (joinedOn s p oks others)
   in-order-joined oks others = record {
-    shaped = record {
-      stamps = o .shaped .stamps;
-      values = o .shaped .values;
-      queue = o .shaped .queue;
-      votes = o .shaped .votes;
-      oks = length-joinVoters (s .oks) p oks ∙ o .shaped .oks;
-      others = length-joinVoters (s .others) p others ∙ o .shaped .others;
-    };
+    shaped = shaped-as (joined-shape s p oks others) (o .shaped);
     queue = orderly-kept (record { queue = refl; waiting = refl }) refl (o .queue);
     end = record { blank = o .end .blank };
     deferred = record { held = o .deferred .held };

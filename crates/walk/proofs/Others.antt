@@ -10,25 +10,25 @@ use Rattle.kit.proofs.Bools.{by-test, by-lt}
 use Rattle.vote.specs.Consider.{markOf}
 use Rattle.vote.specs.Data.{isDeferred, requestIn}
 use Rattle.vote.specs.Queue.{leavesQueue, placeInQueue}
+use Rattle.vote.specs.Shape.{ShapedSite}
 use Rattle.vote.specs.Verdicts.{ruled, released}
 use Rattle.vote.specs.Voting.{voted, deferred, votedFromQueue}
 use Rattle.vote.specs.declared.data.Mark.{Mark}
 use Rattle.vote.specs.declared.data.Request.{Request}
 use Rattle.vote.specs.declared.data.Site.{Site}
 use Rattle.vote.specs.declared.data.Verdict.{Verdict}
-use Rattle.vote.proofs.After.{waits-of, voted-oks, voted-others, voted-from-queue, released-queue, released-other, ruled-queue-deferred, ruled-queue-other}
+use Rattle.vote.proofs.After.{waits-of, voted-oks, voted-others, voted-from-queue, released-queue, released-other, ruled-queue-deferred, ruled-queue-other, queue-back}
 use Rattle.vote.proofs.Fields.{deferred-keeps, voted-keeps, leaves-keeps, ruled-keeps}
 use Rattle.vote.proofs.KnownVoters.{known-elsewhere}
 use Rattle.vote.proofs.Queues.{Waits, waits-left-before}
 use Rattle.vote.proofs.Said.{deferred-says, voted-says, ruled-says}
-use Rattle.vote.proofs.Shapes.{leaves-shape, voted-shape}
+use Rattle.vote.proofs.Shapes.{leaves-shape, voted-shape, shaped-as}
 use Rattle.walk.specs.Hearing.{outcomeOf, takenUp, received}
-use Rattle.walk.specs.Order.{ShapedSite, markAt, InOrder, NotQueued, Untouched, But}
+use Rattle.walk.specs.Order.{markAt, InOrder, NotQueued, Untouched, But}
 use Rattle.walk.specs.Walking.{queued, outcomeAt, votedAt, dueAt, walked, resolved}
 use Rattle.walk.proofs.HearingInductions.{New, votedOn, joinedOn, dueOn, ConsideringLinks, HearingLinks, taken-linked, received-linked}
 use Rattle.walk.proofs.Inductions.{Turn, Links, walked-linked}
-use Rattle.walk.proofs.Orders.{shaped-of, in-order-turns, in-order-considering, in-order-hearing, in-order-ruled, in-order-joined}
-use Rattle.walk.proofs.Queued.{queue-back}
+use Rattle.walk.proofs.Orders.{in-order-turns, in-order-considering, in-order-hearing, in-order-ruled, in-order-joined}
 use Rattle.walk.proofs.TurnLaws.{turn-place, turn-shape}
 
 -- ---- one after the other
@@ -121,7 +121,7 @@ pub untouched-voted-from
     : {s : Site} → ShapedSite s → (p : ℕ) → p < 16 → (me i : ℕ) (m : Mark) → i < s .waiting → Untouched (But p) s (votedFromQueue me s i p m)
 unfolding votedFromQueue
 untouched-voted-from {s} h p l me i m b =
-    untouched-then (waits-left-before s i b) (leaves-untouched (But p) s i) (untouched-voted (shaped-of (leaves-shape s i) h) p l me m)
+    untouched-then (waits-left-before s i b) (leaves-untouched (But p) s i) (untouched-voted (shaped-as (leaves-shape s i) h) p l me m)
 
 -- one in the queue is not one that is not
 out-of-queue : {E : ℕ → Type 0} {s t : Site} {i : ℕ} → i < s .waiting → Untouched (But (queued s i)) s t → Untouched E s t
@@ -150,7 +150,7 @@ module _ (me n : ℕ) (rs : List Request) where
         untouched-then (λ x w. turn-waits s i (t .inside) x (ruled-waits u q (queued s i) (dueAt me n rs s i) x w))
         (out-of-queue (t .inside)
         (untouched-then (turn-waits s i (t .inside)) (turn-untouched o t)
-        (untouched-ruled (shaped-of (turn-shape me n rs s i) (o .shaped)) (queued s i) (turn-place o t) q (dueAt me n rs s i))))
+        (untouched-ruled (shaped-as (turn-shape me n rs s i) (o .shaped)) (queued s i) (turn-place o t) q (dueAt me n rs s i))))
         r;
   }
 
@@ -176,7 +176,7 @@ module _ (me n : ℕ) (rs : List Request) where
           let u : Site = votedOn me n rs s p in
           untouched-then (λ x w. voted-waits me s p m x (ruled-waits u (requestIn rs p) p (dueOn n u p) x w))
           (untouched-then (voted-waits me s p m) (voted-on-untouched o)
-          (untouched-ruled (shaped-of (voted-shape me s p m) (o .shaped)) p h (requestIn rs p) (dueOn n u p)))
+          (untouched-ruled (shaped-as (voted-shape me s p m) (o .shaped)) p h (requestIn rs p) (dueOn n u p)))
           r;
     }
 

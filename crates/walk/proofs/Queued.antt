@@ -5,17 +5,17 @@ use mathlib.Core.Path.{_≡_, refl, sym, ap, _∙_}
 use native.Mathlib.Omega.{arith}
 use lib.ListN.{length}
 use Rattle.kit.proofs.Bools.{clash, by-eq}
+use Rattle.kit.proofs.Counts.{room-left}
 use Rattle.vote.specs.Data.{isDeferred}
 use Rattle.vote.specs.Queue.{joinsQueue, leavesQueue}
 use Rattle.vote.specs.declared.data.Mark.the-variants as mark
 use Rattle.vote.specs.declared.data.Site.{Site}
 use Rattle.vote.specs.declared.data.Vote.{Vote}
-use Rattle.vote.proofs.After.{QueueOf, waits-of, once-of, tidy-of}
+use Rattle.vote.proofs.After.{QueueOf, waits-of, once-of, tidy-of, queue-back}
 use Rattle.vote.proofs.Queues.{Waits, Once, Tidy, tidy-joined, tidy-left, waiting-joined, waiting-left, waits-new, waits-still, waits-before, once-joined, waits-left-before, waits-gone, waits-left, once-left}
 use Rattle.vote.proofs.Said.{Says}
 use Rattle.walk.specs.Order.{markAt, Orderly, BlankEnd}
 use Rattle.walk.specs.Walking.{queued}
-use Rattle.walk.proofs.Rooms.{room-for}
 
 -- ---- who waits, and who is deferred
 
@@ -38,8 +38,7 @@ module _ {s : Site} (o : Orderly s) where
 
   pub room : {p : ℕ} → p < 16 → isDeferred (markAt s p) ≡ false → s .waiting < 16
   room {p} h f =
-      room-for 16 (s .waiting) (queued s) p (record { below = o .place; once = o .once }) h
-      (λ k l e. not-waiting f (record { place = k; inside = l; there = e }))
+      room-left (queued s) 16 (s .waiting) (o .place) (o .once) p h (λ k l e. not-waiting f (record { place = k; inside = l; there = e }))
 
 orderly-of
     : {s : Site} → s .waiting ≤ 16 → ((p : ℕ) → Waits s p → p < 16) → ((p : ℕ) → Waits s p → markAt s p ≡ mark.Deferred)
@@ -51,12 +50,6 @@ orderly-of few place def all once = record {
   all = λ p h e. let w = all p h e in (w .place, w .inside, w .there);
   once = once .once;
 }
-
-pub queue-back : {u t : Site} → QueueOf u t → QueueOf t u
-queue-back q = record { queue = sym (q .queue); waiting = sym (q .waiting) }
-
-pub queue-then : {u t w : Site} → QueueOf u t → QueueOf t w → QueueOf u w
-queue-then q r = record { queue = r .queue ∙ q .queue; waiting = r .waiting ∙ q .waiting }
 
 -- ---- the site s, later t, which says v of the request at place p
 

@@ -7,7 +7,7 @@ use lib.Dec.{eqb}
 use lib.ListN.{length}
 use Rattle.kit.proofs.Bools.{clash}
 use Rattle.vote.specs.Consider.{markOf, defers}
-use Rattle.vote.specs.Data.{isOk, isOpen, isUnmarked, isDeferred, requestIn, voteAt}
+use Rattle.vote.specs.Data.{isOk, isOpen, isDeferred, requestIn, voteAt}
 use Rattle.vote.specs.Queue.{leavesQueue}
 use Rattle.vote.specs.Voters.{knows}
 use Rattle.vote.specs.Voting.{withMark, votedFromQueue}
@@ -18,14 +18,13 @@ use Rattle.vote.specs.declared.data.Mark.the-variants as mark
 use Rattle.vote.specs.declared.data.Request.{Request}
 use Rattle.vote.specs.declared.data.Site.{Site}
 use Rattle.vote.specs.declared.data.Vote.{Vote}
-use Rattle.vote.proofs.After.{QueueOf, voted-oks, voted-others, voted-from-queue, ruled-queue-other}
+use Rattle.vote.proofs.After.{QueueOf, voted-oks, voted-others, voted-from-queue, ruled-queue-other, queue-then}
 use Rattle.vote.proofs.Fields.{leaves-keeps, ruled-keeps}
-use Rattle.vote.proofs.Said.{Says, markAfter, voted-from-says, ruled-says}
+use Rattle.vote.proofs.Said.{Says, markAfter, voted-from-says, ruled-says, says-then}
 use Rattle.vote.proofs.Shapes.{SameShape, shape-then, voted-from-shape, ruled-shape}
 use Rattle.walk.specs.Order.{markAt, verdictAt, isVote, InOrder}
 use Rattle.walk.specs.Walking.{queued, outcomeAt, votedAt, dueAt, ruledAt}
 use Rattle.walk.proofs.Inductions.{Turn}
-use Rattle.walk.proofs.Queued.{queue-then}
 
 -- ---- marks
 
@@ -44,36 +43,11 @@ vote-not-deferred mark.Ok e = refl
 vote-not-deferred mark.Dr e = refl
 vote-not-deferred mark.Rej e = refl
 
-pub is-deferred : (m : Mark) → isDeferred m ≡ true → m ≡ mark.Deferred
-is-deferred mark.None e = clash e refl
-is-deferred mark.Deferred e = refl
-is-deferred mark.Ok e = clash e refl
-is-deferred mark.Dr e = clash e refl
-is-deferred mark.Rej e = clash e refl
-
--- no mark is neither a vote nor a deferral
-pub is-unmarked : (m : Mark) → isUnmarked m ≡ true → m ≡ mark.None
-is-unmarked mark.None e = refl
-is-unmarked mark.Deferred e = clash e refl
-is-unmarked mark.Ok e = clash e refl
-is-unmarked mark.Dr e = clash e refl
-is-unmarked mark.Rej e = clash e refl
-
--- the mark that a verdict leaves is no deferral, and a vote stays
-pub after-not-deferred : (m : Mark) → isDeferred (markAfter m) ≡ false
-after-not-deferred mark.None = refl
-after-not-deferred mark.Deferred = refl
-after-not-deferred mark.Ok = refl
-after-not-deferred mark.Dr = refl
-after-not-deferred mark.Rej = refl
-
+-- a verdict leaves a mark that is no deferral
 pub after-not : (m : Mark) → isDeferred m ≡ false → markAfter m ≡ m
 after-not m e = rw e
 
--- ---- one change after the other at one place
-
-pub says-then : {p : ℕ} {v w : Vote} {s t u : Site} → Says p v s t → Says p w t u → Says p w s u
-says-then y z = record { here = z .here; elsewhere = λ q ne. z .elsewhere q ne ∙ y .elsewhere q ne; long = z .long ∙ y .long }
+-- ---- what is said of one request
 
 pub says-mark : {p : ℕ} {v : Vote} {s t : Site} → Says p v s t → markAt t p ≡ v .mark
 says-mark y = ap (λ (w : Vote). w .mark) (y .here)

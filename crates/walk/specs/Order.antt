@@ -4,8 +4,9 @@ use Prim.Native.Nat.{ℕ, _≤_, _<_}
 use mathlib.Core.Bool.{Bool, true, false}
 use mathlib.Core.List.{List, [], _∷_}
 use mathlib.Core.Path.{_≡_}
-use lib.ListN.{length, getD}
+use lib.ListN.{getD}
 use Rattle.vote.specs.Data.{isOpen, voteAt}
+use Rattle.vote.specs.Shape.{ShapedSite}
 use Rattle.vote.specs.Voters.{knows}
 use Rattle.vote.specs.declared.data.Mark.{Mark}
 use Rattle.vote.specs.declared.data.Mark.the-variants as mark
@@ -14,15 +15,6 @@ use Rattle.vote.specs.declared.data.Verdict.{Verdict}
 use Rattle.walk.specs.Walking.{Said, vote, rule, queued}
 
 -- ---- a site in order
-
--- its arrays have their lengths
-pub record ShapedSite (s : Site) : Type 0 where
-  pub stamps : length (s .stamps) ≡ 24
-  pub values : length (s .values) ≡ 24
-  pub queue : length (s .queue) ≡ 16
-  pub votes : length (s .votes) ≡ 16
-  pub oks : length (s .oks) ≡ 112
-  pub others : length (s .others) ≡ 112
 
 -- its mark of the request at place p, and its verdict
 abbrev pub markAt : Site → ℕ → Mark

@@ -1,7 +1,7 @@
 -- `sitefile::count_in` meets its contract: the byte 7 before the end.
 use borrow.Author.Needs.{needs}
+use Rattle.kit.proofs.Fields.{field-byte}
 use Rattle.sitefile.specs.Frame.{countIn}
-use Rattle.sitefile.proofs.Refusals.{field-byte}
 use Rattle.sitefile.proofs.count_in.Statement.{statement}
 use Rattle.sitefile.proofs.count_in.Tie as tie
 

@@ -1,9 +1,9 @@
 -- `sitefile::count_measured` meets its contract: n of the items before the i-th were measured.
-use Prim.Native.Nat.{_-_}
+use Prim.Native.Nat.{_-_, _<_}
+use native.Mathlib.Omega.{arith}
 use borrow.Author.Needs.{needs}
-use Rattle.kit.proofs.Loops.{Counted, counts}
+use Rattle.kit.proofs.Loops.{Counted, counted-fits, counts}
 use Rattle.sitefile.specs.Entries.{measured}
-use Rattle.sitefile.proofs.Writes.{count-fits}
 use Rattle.sitefile.proofs.count_measured.Statement.{statement}
 use Rattle.sitefile.proofs.count_measured.Tie as tie
 
@@ -29,7 +29,7 @@ one-if-requires : tie.Need-one-if-requires Inv-loop μ-loop
 one-if-requires c κs = search needs
 
 add-n : tie.Need-add-n Inv-loop μ-loop
-add-n c = search count-fits
+add-n c = let few : 24 < 4294967296 = omega arith in search counted-fits
 
 add-i : tie.Need-add-i Inv-loop μ-loop
 add-i c = search counts

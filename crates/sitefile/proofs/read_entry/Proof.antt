@@ -1,6 +1,6 @@
 -- `sitefile::read_entry` meets its contract: the three fields of entry k.
 use borrow.Author.Needs.{needs, sfits-of}
-use Rattle.sitefile.proofs.Refusals.{field-byte, field-word}
+use Rattle.kit.proofs.Fields.{field-byte, field-word}
 use Rattle.sitefile.proofs.Stores.{entry-read}
 use Rattle.sitefile.proofs.read_entry.Statement.{statement}
 use Rattle.sitefile.proofs.read_entry.Tie as tie

@@ -1,7 +1,7 @@
 -- `sitefile::site_in` meets its contract: the byte 8 before the end.
 use borrow.Author.Needs.{needs}
+use Rattle.kit.proofs.Fields.{field-byte}
 use Rattle.sitefile.specs.Frame.{siteIn}
-use Rattle.sitefile.proofs.Refusals.{field-byte}
 use Rattle.sitefile.proofs.site_in.Statement.{statement}
 use Rattle.sitefile.proofs.site_in.Tie as tie
 

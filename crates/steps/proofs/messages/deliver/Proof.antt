@@ -1,6 +1,6 @@
 -- `steps::messages::deliver` meets its contract: a law for each way through it.
 use Rattle.steps.proofs.Sending.{deliver-out, deliver-unused, deliver-nobody, deliver-down, deliver-done}
-use Rattle.vote.proofs.Marks.{length-mapped}
+use Rattle.kit.proofs.Listings.{length-mapped}
 use lib.ListN.{length}
 use mathlib.Core.Path.{_≡_}
 use borrow.Author.Needs.{needs}

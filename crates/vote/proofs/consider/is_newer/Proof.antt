@@ -3,11 +3,11 @@ use Prim.Native.Nat.{_-_}
 use mathlib.Core.Bool.{_&&_}
 use lib.Dec.{ltb}
 use lib.ListN.{getD}
+use Rattle.kit.proofs.Bools.{and-means}
 use Rattle.sets.specs.Sets.{member}
 use Rattle.vote.specs.Consider.{newerCopy}
 use borrow.Author.Needs.{needs}
 use Rattle.kit.proofs.Loops.{Missed, somes}
-use Rattle.vote.proofs.Tests.{and-means}
 use Rattle.vote.proofs.consider.is_newer.Statement.{statement}
 use Rattle.vote.proofs.consider.is_newer.Tie as tie
 

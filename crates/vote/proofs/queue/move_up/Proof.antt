@@ -6,8 +6,7 @@ use native.Mathlib.Omega.{arith}
 use borrow.Author.Needs.{needs}
 use lib.ListN.{length, length-set}
 use Rattle.kit.specs.Lists.{without}
-use Rattle.kit.proofs.Queues.{without-turn, without-last}
-use Rattle.vote.proofs.Queues.{without-none}
+use Rattle.kit.proofs.Queues.{without-turn, without-last, without-none}
 use Rattle.vote.proofs.queue.move_up.Statement.{statement}
 use Rattle.vote.proofs.queue.move_up.Tie as tie
 
@@ -32,7 +31,7 @@ move-up-spec =
     (tie.spec
     Inv-loop
     μ-loop
-    (λ c. without-none _ _ (omega (arith, long (c .before))))
+    (λ c. without-none 0 _ _ (omega (arith, long (c .before))))
     (λ c. search (arith, long (c .before)))
     (λ c. omega arith)
     (λ c. omega arith)

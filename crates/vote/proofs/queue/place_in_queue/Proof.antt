@@ -2,9 +2,9 @@
 use Prim.Native.Nat.{_-_}
 use lib.Dec.{eqb}
 use borrow.Author.Needs.{needs}
+use Rattle.kit.proofs.Bools.{eqb-means}
 use Rattle.kit.proofs.Loops.{Missed, firsts}
 use Rattle.vote.specs.Queue.{queuedAt, placeInQueue}
-use Rattle.vote.proofs.Tests.{eqb-means}
 use Rattle.vote.proofs.queue.place_in_queue.Statement.{statement}
 use Rattle.vote.proofs.queue.place_in_queue.Tie as tie
 

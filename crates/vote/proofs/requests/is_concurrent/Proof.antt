@@ -4,11 +4,11 @@ use mathlib.Core.Bool.{_&&_}
 use lib.Dec.{eqb}
 use lib.ListN.{getD}
 use Rattle.kit.specs.Range.{implies}
+use Rattle.kit.proofs.Bools.{implies-means}
 use Rattle.sets.specs.Sets.{member}
 use Rattle.vote.specs.Requests.{concurrent}
 use borrow.Author.Needs.{needs}
 use Rattle.kit.proofs.Loops.{Held, alls}
-use Rattle.vote.proofs.Tests.{implies-means}
 use Rattle.vote.proofs.requests.is_concurrent.Statement.{statement}
 use Rattle.vote.proofs.requests.is_concurrent.Tie as tie
 

@@ -4,12 +4,13 @@ use mathlib.Core.Logic.{⊎-elim}
 use Prim.Native.Nat.{ℕ}
 use lib.ListN.{length}
 use borrow.Author.Needs.{needs}
+use Rattle.kit.proofs.Listings.{length-mapped}
 use Rattle.vote.specs.Verdicts.{noted, writtenSite, decided}
 use Rattle.vote.specs.declared.data.Request.{Request}
 use Rattle.vote.specs.declared.data.Site.{Site}
 use Rattle.vote.specs.declared.data.Verdict.{Verdict}
 use Rattle.vote.specs.declared.data.Verdict.the-variants as verdict
-use Rattle.vote.proofs.Marks.{length-mapped, notes-out, notes-in}
+use Rattle.vote.proofs.Marks.{notes-out, notes-in}
 use Rattle.vote.proofs.verdicts.decide.Statement.{statement}
 use Rattle.vote.proofs.verdicts.decide.Tie as tie
 

@@ -3,8 +3,8 @@ use mathlib.Core.Logic.{⊎-elim}
 use Prim.Native.Nat.{_-_}
 use borrow.Author.Needs.{needs}
 use native.Mathlib.Omega.{arith}
+use Rattle.kit.proofs.Gathers.{Gathered, gathered-none, gathered-more, gathered-skip, gathered-count, gathered-list}
 use Rattle.vote.specs.Voters.{hasVoter, voterList, votersIn, votersListed}
-use Rattle.vote.proofs.Gathers.{Gathered, gathered-none, gathered-more, gathered-skip, gathered-count, gathered-list}
 use Rattle.vote.proofs.voters.list_voters.Statement.{statement}
 use Rattle.vote.proofs.voters.list_voters.Tie as tie
 

@@ -2,7 +2,8 @@
 use mathlib.Core.Path.{_≡_}
 use lib.ListN.{length}
 use borrow.Author.Needs.{needs}
-use Rattle.vote.proofs.Marks.{length-mapped, marks-out, marks-in}
+use Rattle.kit.proofs.Listings.{length-mapped}
+use Rattle.vote.proofs.Marks.{marks-out, marks-in}
 use Rattle.vote.proofs.voting.put_mark.Statement.{statement}
 use Rattle.vote.proofs.voting.put_mark.Tie as tie
 

@@ -3,16 +3,16 @@ use mathlib.Core.Path.{_≡_, ap, _∙_}
 use mathlib.Core.List.{List}
 use Prim.Native.Nat.{ℕ, _<_}
 use lib.ListN.{length, length-set}
-use lib.Seq.{getD-set-same, getD-set-other, set-set, set-getD}
+use lib.Seq.{getD-set-same, getD-set-other, set-getD}
 use Rattle.kit.proofs.Changes.{each-set}
-use Rattle.table.specs.Meaning.{ShapedSite, ShapedRequest, ShapedMessage, ShapedTable}
-use Rattle.table.specs.Places.{noSite, noMessage, siteAt, withSites, withSite, withRequest, withMessage}
-use Rattle.table.specs.declared.data.Message.{Message}
-use Rattle.table.specs.declared.data.Table.{Table}
+use Rattle.vote.specs.Shape.{ShapedSite}
 use Rattle.vote.specs.Data.{noRequest}
 use Rattle.vote.specs.declared.data.Request.{Request}
 use Rattle.vote.specs.declared.data.Site.{Site}
-use Rattle.vote.proofs.Shapes.{SameShape}
+use Rattle.table.specs.Meaning.{ShapedRequest, ShapedMessage, ShapedTable}
+use Rattle.table.specs.Places.{noSite, noMessage, siteAt, withSites, withSite, withRequest, withMessage}
+use Rattle.table.specs.declared.data.Message.{Message}
+use Rattle.table.specs.declared.data.Table.{Table}
 
 -- ---- one site
 
@@ -26,24 +26,11 @@ site-other t k s j ne = getD-set-other (t .sites) k j s noSite ne
 pub each-site : (P : ℕ → Site → Type 0) (t : Table) (k : ℕ) (s : Site) (j : ℕ) → k < length (t .sites) → P k s → ((j ≡ k → ⊥) → P j (siteAt t j)) → P j (siteAt (withSite k s t) j)
 each-site P t k s j h new old = each-set P (t .sites) k j s noSite h new old
 
--- the later site counts, and a site put back changes nothing
-pub site-twice : (t : Table) (k : ℕ) (s s′ : Site) → withSite k s′ (withSite k s t) ≡ withSite k s′ t
-site-twice t k s s′ = ap (λ (l : List Site). withSites l t) (set-set (t .sites) k s s′)
-
+-- a site put back changes nothing
 pub site-back : (t : Table) (k : ℕ) → withSite k (siteAt t k) t ≡ t
 site-back t k = ap (λ (l : List Site). withSites l t) (set-getD (t .sites) k noSite)
 
 -- ---- lengths
-
-pub shaped-as : {s s′ : Site} → SameShape s s′ → ShapedSite s → ShapedSite s′
-shaped-as a b = record {
-  stamps = a .stamps ∙ b .stamps;
-  values = a .values ∙ b .values;
-  queue = a .queue ∙ b .queue;
-  votes = a .votes ∙ b .votes;
-  oks = a .oks ∙ b .oks;
-  others = a .others ∙ b .others;
-}
 
 pub shaped-with-site : (t : Table) (k : ℕ) (s : Site) → k < 7 → ShapedTable t → ShapedSite s → ShapedTable (withSite k s t)
 shaped-with-site t k s h g new =
