@@ -101,8 +101,8 @@ pub topped-none : {n : ℕ} {p : ℕ → Bool} {f : ℕ → ℕ} → Topped n p 
 unfolding largest
 topped-none = record { in-range = omega arith; so-far = refl }
 
-pub topped-more : {n : ℕ} {p : ℕ → Bool} {f : ℕ → ℕ} {i m d : ℕ} → Topped n p f i m → i < n → d ≡ cond (p i) (max m (f i)) m → Topped n p f (i + 1) d
-topped-more {n} {p} {f} {i} {m} {d} t l e = record { in-range = omega arith; so-far = rw (add-one i, largest-suc, ← t .so-far) e }
+pub topped-more : {n : ℕ} {p : ℕ → Bool} {f : ℕ → ℕ} {i m d : ℕ} {r : Bool} → Topped n p f i m → i < n → r ≡ p i → d ≡ cond r (max m (f i)) m → Topped n p f (i + 1) d
+topped-more {n} {p} {f} {i} {m} {d} t l e g = record { in-range = omega arith; so-far = rw (add-one i, largest-suc, ← t .so-far, ← e) g }
 
 pub topped-over : {n : ℕ} {p : ℕ → Bool} {f : ℕ → ℕ} {i m : ℕ} → Topped n p f i m → n ≤ i → m ≡ largest n p f
 topped-over {n} {p} {f} {i} {m} t l = let e : n ≡ i = omega (arith, t .in-range) in rw e (t .so-far)

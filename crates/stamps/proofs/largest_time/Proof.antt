@@ -1,11 +1,8 @@
 -- `stamps::largest_time` meets its contract. The loop's invariant: the largest t of the base items passed, and it has 61 bits.
-use mathlib.Core.Path.{_≡_}
-use mathlib.Core.Bool.{Bool, cond}
-use Prim.Native.Nat.{ℕ, _+_, _-_, _^_, _<_, max}
-use native.Mathlib.Omega.{arith}
+use Prim.Native.Nat.{_-_, _^_, _<_}
 use borrow.Author.Needs.{needs}
 use lib.ListN.{getD}
-use Rattle.kit.proofs.Loops.{Topped, topped-more, tops}
+use Rattle.kit.proofs.Loops.{Topped, tops}
 use Rattle.sets.specs.Sets.{member}
 use Rattle.stamps.specs.Stamps.{timeOf, largestTime}
 use Rattle.stamps.proofs.largest_time.Statement.{statement}
@@ -38,12 +35,8 @@ add-i c = search needs
 loop-less : tie.Need-loop-less Inv-loop μ-loop
 loop-less c = search needs
 
--- a turn, whose test gave r
-turn : {n : ℕ} {p : ℕ → Bool} {f : ℕ → ℕ} {i m d : ℕ} {r : Bool} → Topped n p f i m → i < n → r ≡ p i → d ≡ cond r (max m (f i)) m → Topped n p f (i + 1) d
-turn t l e g = topped-more t l (rw (← e) g)
-
 loop-again : tie.Need-loop-again Inv-loop μ-loop
-loop-again c = (c .larger-if .ensures .1 (c .before .before .before .before .loop .inv .0), search (turn, arith))
+loop-again c = (c .larger-if .ensures .1 (c .before .before .before .before .loop .inv .0), search tops)
 
 returns : tie.Need-returns Inv-loop μ-loop
 unfolding largestTime
