@@ -1,4 +1,5 @@
--- What the contracts of `steps` cite: document 01, "Steps" and "Numbers given back", on the whole table.
+-- What the contracts of `steps` cite: document 01, "Steps" and "Numbers given back", on the whole table; and each step on its pieces.
 pub mod Answers
 pub mod Numbers
 pub mod Steps
+pub mod Pieces

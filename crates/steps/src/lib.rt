@@ -1,8 +1,10 @@
-// The eight steps on the whole table: document 01, "Steps" and "Numbers given back".
+// The eight steps on the whole table: document 01, "Steps" and "Numbers given back". A step takes the few pieces that it is about out of the
+// table, works on those, and puts them back.
 pub mod answer;
-mod begin;
-mod messages;
-mod places;
-mod retire;
-mod sites;
+pub mod begin;
+pub mod hearing;
+pub mod messages;
+pub mod places;
+pub mod retire;
+pub mod sites;
 pub mod step;
