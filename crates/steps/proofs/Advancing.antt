@@ -9,9 +9,10 @@ use Rattle.kit.proofs.Bools.{and-left, and-right, of-cond}
 use Rattle.record.specs.declared.Step.{Step}
 use Rattle.table.specs.Sound.{countRight, soundTable}
 use Rattle.table.specs.declared.data.Table.{Table}
-use Rattle.steps.specs.Answers.{Done, refusedAs}
+use Rattle.steps.specs.Answers.{Done, refusal, refusedAs}
 use Rattle.steps.specs.Numbers.{beginNumber, tellNumber, deliverNumber, dropNumber, downNumber, upNumber, retireNumber, readNumber}
 use Rattle.steps.specs.Steps.{unlessRefused, begun, entered, told, delivered, dropped, putUp, retired, readings, advanced, stepped}
+use Rattle.steps.specs.declared.answer.Answer.{Answer}
 use Rattle.steps.specs.declared.answer.Stepped.{Stepped}
 
 module _ (t : Table) (a : Step) {z : Stepped} where
@@ -61,15 +62,17 @@ module _ (t : Table) (a : Step) {z : Stepped} where
       rw (ne-eqb (a .code) 1 n1, ne-eqb (a .code) 2 n2, ne-eqb (a .code) 3 n3, ne-eqb (a .code) 4 n4, ne-eqb (a .code) 5 n5, ne-eqb (a .code) 6 n6, ne-eqb (a .code) 7 n7, ne-eqb (a .code) 8 n8)
       r
 
-  -- ---- by soundness
+-- ---- by soundness
 
-  pub step-unsound : {b : Bool} → b ≡ soundTable t → not b ≡ true → z ≡ refusedAs 1 t → z ≡ stepped t a
-  unfolding stepped
-  step-unsound {b} h n r = rw (← h, not-true b n) r
+pub step-unsound
+    : (t : Table) (a : Step) {b : Bool} {w : Answer} → b ≡ soundTable t → not b ≡ true → w ≡ refusal 1
+    → _≡_ {A = Stepped} (record { answer = w; table = t }) (stepped t a)
+unfolding stepped
+step-unsound t a {b} h n r = rw (← h, not-true b n, r)
 
-  pub step-sound : {b : Bool} → b ≡ soundTable t → not b ≡ false → z ≡ advanced t a → z ≡ stepped t a
-  unfolding stepped
-  step-sound {b} h n r = rw (← h, not-false b n) r
+pub step-sound : (t : Table) (a : Step) {b : Bool} {z : Stepped} → b ≡ soundTable t → not b ≡ false → z ≡ advanced t a → z ≡ stepped t a
+unfolding stepped
+step-sound t a {b} h n r = rw (← h, not-false b n) r
 
 -- a sound table has at most 7 sites
 count-of : (t : Table) → countRight t ≡ true → t .count ≤ 7

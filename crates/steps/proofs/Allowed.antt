@@ -144,6 +144,10 @@ module _ (t : Table) (a : Step) where
   unfolding upNumber
   may-up e = passed (noSuchSite t (a .site)) 3 _ refl e .0
 
+  pub may-read : readNumber t a ≡ 0 → noSuchSite t (a .site) ≡ false
+  unfolding readNumber
+  may-read e = passed (noSuchSite t (a .site)) 3 _ refl e .0
+
   pub record MayRetire : Type 0 where
     pub place : placeOf t (a .stamp) ≡ 16 → ⊥
     pub judged : (k : ℕ) → k < 7 → k < t .count → isOpen (verdictAt t k (placeOf t (a .stamp))) ≡ false

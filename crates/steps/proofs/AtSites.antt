@@ -1,5 +1,5 @@
 -- Down, up and read, over the values that the code has at hand: a law for each way through a step.
-use Prim.Native.Nat.{ℕ, _-_, _<_, _≤_}
+use Prim.Native.Nat.{ℕ, _<_, _≤_}
 use mathlib.Core.Bool.{Bool, true, false, not, _&&_}
 use mathlib.Core.Path.{_≡_}
 use native.Mathlib.Omega.{arith}
@@ -10,63 +10,57 @@ use lib.ListN.{getD}
 use mir.Facts.{toZ-ofZ, sfits-widen}
 use mir.Syntax.{w32, w64}
 use mir.Val.{SFits, toZ, ofZ}
-use Rattle.record.specs.declared.Step.{Step}
-use Rattle.table.specs.Places.{siteAt, withSite}
-use Rattle.table.specs.declared.data.Table.{Table}
-use Rattle.vote.specs.Data.{withUp}
-use Rattle.steps.specs.Answers.{refusedAs, steppedAs}
-use Rattle.steps.specs.Numbers.{downNumber, upNumber, readNumber}
-use Rattle.steps.specs.Steps.{unlessRefused, doneQuietly, putUp, readings}
-use Rattle.steps.specs.declared.answer.Stepped.{Stepped}
+use Rattle.vote.specs.declared.data.Site.{Site}
+use Rattle.steps.specs.Answers.{refusal}
+use Rattle.steps.specs.Pieces.{results, leftAs, downNumberOf, downPlan, upNumberOf, upPlan, readNumberOf, readPlan}
+use Rattle.steps.specs.declared.answer.Answer.{Answer}
+use Rattle.steps.specs.declared.sites.Turn.{Turn}
 
-module _ (t : Table) (a : Step) {z : Stepped} {b : Bool} (h : b ≡ (leb 1 (a .site) && leb (a .site) (t .count))) where
-  pub down-3 : not b ≡ true → z ≡ refusedAs 3 t → z ≡ unlessRefused (downNumber t a) (putUp false t a) t
-  unfolding downNumber
-  down-3 n r = rw (← h, n) r
+module _ (n d : ℕ) {b : Bool} (h : b ≡ (leb 1 d && leb d n)) where
+  module _ (up : Bool) {z : Turn} where
+    pub down-3 : not b ≡ true → z ≡ leftAs 3 up → z ≡ downPlan n d up
+    unfolding downPlan downNumberOf
+    down-3 t r = rw (← h, t) r
 
-  pub up-3 : not b ≡ true → z ≡ refusedAs 3 t → z ≡ unlessRefused (upNumber t a) (putUp true t a) t
-  unfolding upNumber
-  up-3 n r = rw (← h, n) r
+    pub down-4 : not b ≡ false → not up ≡ true → z ≡ leftAs 4 up → z ≡ downPlan n d up
+    unfolding downPlan downNumberOf
+    down-4 t u r = rw (← h, t, u) r
 
-  pub read-3 : not b ≡ true → z ≡ refusedAs 3 t → z ≡ unlessRefused (readNumber t a) (readings t a) t
-  unfolding readNumber
-  read-3 n r = rw (← h, n) r
+    pub up-3 : not b ≡ true → z ≡ leftAs 3 up → z ≡ upPlan n d up
+    unfolding upPlan upNumberOf
+    up-3 t r = rw (← h, t) r
 
-  module _ (n : not b ≡ false) (i : ℕ) (e : i ≡ a .site) where
-    pub down-4 : not (siteAt t (i - 1) .up) ≡ true → z ≡ refusedAs 4 t → z ≡ unlessRefused (downNumber t a) (putUp false t a) t
-    unfolding downNumber
-    down-4 u r = rw (← h, n, ← e, u) r
+    pub up-15 : not b ≡ false → up ≡ true → z ≡ leftAs 15 up → z ≡ upPlan n d up
+    unfolding upPlan upNumberOf
+    up-15 t u r = rw (← h, t, u) (rw u at r)
 
-    pub down-0
-        : not (siteAt t (i - 1) .up) ≡ false → z ≡ steppedAs (doneQuietly (pos 0) 0 (withSite (i - 1) (withUp false (siteAt t (i - 1))) t))
-        → z ≡ unlessRefused (downNumber t a) (putUp false t a) t
-    unfolding downNumber putUp
-    down-0 u r = rw (← h, n, ← e, u) r
+  pub down-0 : (up : Bool) {w : Answer} → not b ≡ false → not up ≡ false → w ≡ results (pos 0) 0 0 0 → _≡_ {A = Turn} (record { answer = w; up = false }) (downPlan n d up)
+  unfolding downPlan downNumberOf
+  down-0 up t u r = rw (← h, t, u, r)
 
-    pub up-15 : siteAt t (i - 1) .up ≡ true → z ≡ refusedAs 15 t → z ≡ unlessRefused (upNumber t a) (putUp true t a) t
-    unfolding upNumber
-    up-15 u r = rw (← h, n, ← e, u) r
+  pub up-0 : (up : Bool) {w : Answer} → not b ≡ false → up ≡ false → w ≡ results (pos 0) 0 0 0 → _≡_ {A = Turn} (record { answer = w; up = true }) (upPlan n d up)
+  unfolding upPlan upNumberOf
+  up-0 up t u r = rw (← h, t, u, r)
 
-    pub up-0
-        : siteAt t (i - 1) .up ≡ false → z ≡ steppedAs (doneQuietly (pos 0) 0 (withSite (i - 1) (withUp true (siteAt t (i - 1))) t))
-        → z ≡ unlessRefused (upNumber t a) (putUp true t a) t
-    unfolding upNumber putUp
-    up-0 u r = rw (← h, n, ← e, u) r
+  module _ (s : Site) (item : ℕ) {z : Answer} where
+    pub read-3 : not b ≡ true → z ≡ refusal 3 → z ≡ readPlan n d s item
+    unfolding readPlan readNumberOf
+    read-3 t r = rw (← h, t) r
 
-    pub read-4 : not (siteAt t (i - 1) .up) ≡ true → z ≡ refusedAs 4 t → z ≡ unlessRefused (readNumber t a) (readings t a) t
-    unfolding readNumber
-    read-4 u r = rw (← h, n, ← e, u) r
+    module _ (t : not b ≡ false) where
+      pub read-4 : not (s .up) ≡ true → z ≡ refusal 4 → z ≡ readPlan n d s item
+      unfolding readPlan readNumberOf
+      read-4 u r = rw (← h, t, u) r
 
-    module _ (u : not (siteAt t (i - 1) .up) ≡ false) (j : ℕ) (f : j ≡ a .item) where
-      pub read-16 : 23 < j → z ≡ refusedAs 16 t → z ≡ unlessRefused (readNumber t a) (readings t a) t
-      unfolding readNumber
-      read-16 l r = rw (← h, n, ← e, u, ← f, le-leb 24 j l) r
+      module _ (u : not (s .up) ≡ false) (j : ℕ) (f : j ≡ item) where
+        pub read-16 : 23 < j → z ≡ refusal 16 → z ≡ readPlan n d s item
+        unfolding readPlan readNumberOf
+        read-16 l r = rw (← h, t, u, ← f, le-leb 24 j l) r
 
-      pub read-0
-          : j ≤ 23 → SFits w32 (getD (siteAt t (i - 1) .values) j (pos 0))
-          → z ≡ steppedAs (doneQuietly (toZ w64 (ofZ w64 (toZ w32 (ofZ w32 (getD (siteAt t (i - 1) .values) j (pos 0)))))) (getD (siteAt t (i - 1) .stamps) j 0) t)
-          → z ≡ unlessRefused (readNumber t a) (readings t a) t
-      unfolding readNumber readings
-      read-0 l k r =
-          let g : j < 24 = omega arith in
-          rw (← h, n, ← e, u, ← f, lt-leb 24 j g) (rw (toZ-ofZ k, toZ-ofZ (sfits-widen {w = w32} {w′ = w64} tt k)) at r)
+        pub read-0
+            : j ≤ 23 → SFits w32 (getD (s .values) j (pos 0))
+            → z ≡ results (toZ w64 (ofZ w64 (toZ w32 (ofZ w32 (getD (s .values) j (pos 0)))))) (getD (s .stamps) j 0) 0 0 → z ≡ readPlan n d s item
+        unfolding readPlan readNumberOf
+        read-0 l k r =
+            let g : j < 24 = omega arith in
+            rw (← h, t, u, ← f, lt-leb 24 j g) (rw (toZ-ofZ k, toZ-ofZ (sfits-widen {w = w32} {w′ = w64} tt k)) at r)

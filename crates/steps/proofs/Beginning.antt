@@ -1,10 +1,10 @@
 -- Begin, over the values that the code has at hand: what is stored, what is entered, and a law for each way through the step.
-use Prim.Native.Nat.{ℕ, _-_, _^_, _<_, _≤_}
+use Prim.Native.Nat.{ℕ, _-_, _^_, _<_}
 use mathlib.Core.Bool.{Bool, true, false, not, _&&_, cond}
-use mathlib.Core.Path.{_≡_, refl, sym}
+use mathlib.Core.Path.{_≡_, refl}
 use mathlib.Core.List.{List}
 use native.Mathlib.Omega.{arith}
-use borrow.Author.Tests.{ne-eqb}
+use borrow.Author.Tests.{eq-eqb, ne-eqb}
 use lib.Dec.{eqb, leb}
 use lib.IntN.{ℤ, pos}
 use lib.ListN.{getD, set}
@@ -15,21 +15,18 @@ use Rattle.kit.specs.Lists.{listed}
 use Rattle.record.specs.declared.Step.{Step}
 use Rattle.sets.specs.Sets.{member}
 use Rattle.stamps.proofs.Laws.{given-facts}
-use Rattle.stamps.specs.Issue.{issued, issueNumber}
-use Rattle.stamps.specs.declared.Issue.{Issue}
+use Rattle.stamps.specs.Issue.{issueNumber}
 use Rattle.stamps.specs.declared.Issue.the-variants as issue
-use Rattle.table.specs.Places.{noSite, siteAt, withSite, withRequest}
 use Rattle.table.specs.Sound.{setsAllowed, baseStampsAllowed, valuesAllowed}
-use Rattle.table.specs.declared.data.Table.{Table}
-use Rattle.vote.specs.Data.{withLast}
+use Rattle.vote.specs.Data.{headOf, withLast}
+use Rattle.vote.specs.declared.data.Head.{Head}
 use Rattle.vote.specs.declared.data.Request.{Request}
-use Rattle.walk.specs.Hearing.{takenUp}
-use Rattle.walk.specs.Walking as walking
-use Rattle.walk.specs.declared.walking.Settled.{Settled}
-use Rattle.steps.specs.Answers.{refusedAs, steppedAs}
-use Rattle.steps.specs.Numbers.{freePlace, beginNumber}
-use Rattle.steps.specs.Steps.{unlessRefused, stored, issueFor, entered, begun}
-use Rattle.steps.specs.declared.answer.Stepped.{Stepped}
+use Rattle.vote.specs.declared.data.Site.{Site}
+use Rattle.steps.specs.Pieces.{within, takenUpAlone, settledAlone, results, unbegun, enteredAlone, issueAt, beginNumberOf, beginPlan}
+use Rattle.steps.specs.Steps.{stored}
+use Rattle.steps.specs.declared.begin.Entry.{Entry}
+use Rattle.steps.specs.declared.hearing.Heard.{Heard}
+use Rattle.steps.specs.declared.hearing.Ruling.{Ruling}
 
 -- ---- what is stored
 
@@ -59,71 +56,65 @@ stored-is a stamp e f = rw (e, f)
 
 -- ---- what is entered
 
-module _ (t : Table) (a : Step) (k : ℕ) (e : k ≡ a .site - 1) (l : k < 7) {stamp last : ℕ} (g : issueFor t a ≡ issue.Given stamp last) where
-  pub stamp-small : stamp < 2 ^ 63
-  stamp-small =
-      let f = given-facts (a .site) (a .clock) (siteAt t (a .site - 1) .last) (a .base) (a .stamps) g in
-      omega (arith, f .is-stamp, f .in-range)
-
-  pub stamp-fits : SFits w64 (pos stamp)
-  stamp-fits = record { sfits = stamp-small }
-
-  pub enter-is
-      : (p : ℕ) → freePlace t ≡ p → {q : Request} {out : Settled} → q ≡ stored a stamp
-      → out ≡ walking.answerOf (takenUp k (t .count) (set (t .requests) p q) (getD (set (t .sites) k (withLast last (siteAt t k))) k noSite) p)
-      → _≡_ {A = Stepped}
-      (record {
-        answer = record { number = 0; first = toZ w64 stamp; second = p; accepted = out .accepted; rejected = out .rejected };
-        table = withRequest p q (withSite k (out .site) (withSite k (withLast last (siteAt t k)) t));
-      })
-      (steppedAs (begun t a))
-  unfolding begun entered
-  enter-is p f hq ho = rw (g, f, ← e, ho, hq, toZ-pos w64 stamp-small)
+pub enter-is
+    : (n me : ℕ) (heads : List Head) (s : Site) (p : ℕ) (q : Request) (last : ℕ) {x : Head} {i k w : ℕ} {h : Heard} {r : Ruling} → q .stamp < 2 ^ 63
+    → x ≡ headOf q → i ≡ p → k ≡ within i 15 → h ≡ takenUpAlone n me (set heads k x) (withLast last s) p q → r ≡ settledAlone h p q → w ≡ p
+    → _≡_ {A = Entry} (record { answer = results (toZ w64 (q .stamp)) w (r .accepted) (r .rejected); request = q; site = r .site; due = r .due })
+    (enteredAlone n me heads s p q last)
+unfolding enteredAlone
+enter-is n me heads s p q last l hx hi hk hh hr hw = rw (hr, hh, hk, hi, hx, hw, toZ-pos w64 l)
 
 -- ---- the step
 
-module _ (t : Table) (a : Step) {b : Bool} (h : b ≡ (leb 1 (a .site) && leb (a .site) (t .count))) where
-  pub begin-nobody : {z : Stepped} → not b ≡ true → z ≡ refusedAs 3 t → z ≡ unlessRefused (beginNumber t a) (begun t a) t
-  unfolding beginNumber
-  begin-nobody n r = rw (← h, n) r
+module _ (n : ℕ) (heads : List Head) (s : Site) (p : ℕ) (q : Request) (a : Step) {b : Bool} (h : b ≡ (leb 1 (a .site) && leb (a .site) n)) where
+  pub begin-nobody : {z : Entry} → not b ≡ true → z ≡ unbegun 3 q s → z ≡ beginPlan n heads s p q a
+  unfolding beginPlan beginNumberOf
+  begin-nobody t r = rw (← h, t) r
 
-  module _ (n : not b ≡ false) (i : ℕ) (e : i ≡ a .site) where
-    pub begin-down : {z : Stepped} → not (siteAt t (i - 1) .up) ≡ true → z ≡ refusedAs 4 t → z ≡ unlessRefused (beginNumber t a) (begun t a) t
-    unfolding beginNumber
-    begin-down u r = rw (← h, n, ← e, u) r
+  module _ (t : not b ≡ false) where
+    pub begin-down : {z : Entry} → not (s .up) ≡ true → z ≡ unbegun 4 q s → z ≡ beginPlan n heads s p q a
+    unfolding beginPlan beginNumberOf
+    begin-down u r = rw (← h, t, u) r
 
-    module _ (u : not (siteAt t (i - 1) .up) ≡ false) {c : Bool} (hc : c ≡ setsAllowed (a .base) (a .update)) where
-      pub begin-sets : {z : Stepped} → not c ≡ true → z ≡ refusedAs 5 t → z ≡ unlessRefused (beginNumber t a) (begun t a) t
-      unfolding beginNumber
-      begin-sets nc r = rw (← h, n, ← e, u, ← hc, nc) r
+    module _ (u : not (s .up) ≡ false) {c : Bool} (hc : c ≡ setsAllowed (a .base) (a .update)) where
+      pub begin-sets : {z : Entry} → not c ≡ true → z ≡ unbegun 5 q s → z ≡ beginPlan n heads s p q a
+      unfolding beginPlan beginNumberOf
+      begin-sets nc r = rw (← h, t, u, ← hc, nc) r
 
-      module _ (nc : not c ≡ false) {d : Bool} (hd : d ≡ baseStampsAllowed (t .count) (a .base) (a .stamps)) where
-        pub begin-stamps : {z : Stepped} → not d ≡ true → z ≡ refusedAs 6 t → z ≡ unlessRefused (beginNumber t a) (begun t a) t
-        unfolding beginNumber
-        begin-stamps nd r = rw (← h, n, ← e, u, ← hc, nc, ← hd, nd) r
+      module _ (nc : not c ≡ false) {d : Bool} (hd : d ≡ baseStampsAllowed n (a .base) (a .stamps)) where
+        pub begin-stamps : {z : Entry} → not d ≡ true → z ≡ unbegun 6 q s → z ≡ beginPlan n heads s p q a
+        unfolding beginPlan beginNumberOf
+        begin-stamps nd r = rw (← h, t, u, ← hc, nc, ← hd, nd) r
 
         module _ (nd : not d ≡ false) {v : Bool} (hv : v ≡ valuesAllowed (a .update) (a .values)) where
-          pub begin-values : {z : Stepped} → not v ≡ true → z ≡ refusedAs 7 t → z ≡ unlessRefused (beginNumber t a) (begun t a) t
-          unfolding beginNumber
-          begin-values nv r = rw (← h, n, ← e, u, ← hc, nc, ← hd, nd, ← hv, nv) r
+          pub begin-values : {z : Entry} → not v ≡ true → z ≡ unbegun 7 q s → z ≡ beginPlan n heads s p q a
+          unfolding beginPlan beginNumberOf
+          begin-values nv r = rw (← h, t, u, ← hc, nc, ← hd, nd, ← hv, nv) r
 
           -- all but the stamp and the free place is as it should be
-          pub begin-rest : not v ≡ false → beginNumber t a ≡ cond (eqb (issueNumber (issueFor t a)) 8) 8 (cond (eqb (freePlace t) 16) 9 0)
-          unfolding beginNumber
-          begin-rest nv = rw (← h, n, ← e, u, ← hc, nc, ← hd, nd, ← hv, nv)
+          pub begin-rest : not v ≡ false → beginNumberOf n s p a ≡ cond (eqb (issueNumber (issueAt s a)) 8) 8 (cond (eqb p 16) 9 0)
+          unfolding beginNumberOf
+          begin-rest nv = rw (← h, t, u, ← hc, nc, ← hd, nd, ← hv, nv)
 
-module _ (t : Table) (a : Step) where
-  pub issue-is
-      : (i : ℕ) → i ≡ a .site → (o : Issue) → o ≡ issued (a .site) (a .clock) (siteAt t (i - 1) .last) (a .base) (a .stamps) → (x : Issue) → o ≡ x → issueFor t a ≡ x
-  issue-is i e o f x g = rw (e, g) at (sym f)
+module _ (n : ℕ) (heads : List Head) (s : Site) (p : ℕ) (q : Request) (a : Step) (h : beginNumberOf n s p a ≡ cond (eqb (issueNumber (issueAt s a)) 8) 8 (cond (eqb p 16) 9 0)) where
+  pub begin-past : {z : Entry} → issueAt s a ≡ issue.Past → z ≡ unbegun 8 q s → z ≡ beginPlan n heads s p q a
+  unfolding beginPlan
+  begin-past g r = rw (h, g) r
 
-  module _ (h : beginNumber t a ≡ cond (eqb (issueNumber (issueFor t a)) 8) 8 (cond (eqb (freePlace t) 16) 9 0)) {z : Stepped} where
-    pub begin-past : issueFor t a ≡ issue.Past → z ≡ refusedAs 8 t → z ≡ unlessRefused (beginNumber t a) (begun t a) t
-    begin-past g r = rw (h, g) r
+  module _ {stamp last : ℕ} (g : issueAt s a ≡ issue.Given stamp last) where
+    pub begin-full : {z : Entry} → p ≡ 16 → z ≡ unbegun 9 q s → z ≡ beginPlan n heads s p q a
+    unfolding beginPlan
+    begin-full e r = rw (h, g, eq-eqb p 16 e) r
 
-    module _ {stamp last : ℕ} (g : issueFor t a ≡ issue.Given stamp last) where
-      pub begin-full : freePlace t ≡ 16 → z ≡ refusedAs 9 t → z ≡ unlessRefused (beginNumber t a) (begun t a) t
-      begin-full f r = rw (h, g, f) r
+    pub begin-done
+        : {z : Entry} {x : Request} → (p ≡ 16 → ⊥) → x ≡ stored a stamp → z ≡ enteredAlone n (a .site - 1) heads s p x last → z ≡ beginPlan n heads s p q a
+    unfolding beginPlan
+    begin-done e hx r = rw (h, g, ne-eqb p 16 e) (rw hx at r)
 
-      pub begin-done : (p : ℕ) → freePlace t ≡ p → p ≤ 15 → z ≡ steppedAs (begun t a) → z ≡ unlessRefused (beginNumber t a) (begun t a) t
-      begin-done p f l r = rw (h, g, f, ne-eqb p 16 (λ x. omega arith)) r
+-- a stamp that is given fits
+pub stamp-small : (s : Site) (a : Step) {stamp last : ℕ} → a .site < 256 → issueAt s a ≡ issue.Given stamp last → stamp < 2 ^ 63
+stamp-small s a b g = let f = given-facts (a .site) (a .clock) (s .last) (a .base) (a .stamps) g in omega (arith, f .is-stamp, f .in-range)
+
+pub stored-small : (s : Site) (a : Step) {stamp last : ℕ} {x : Request} → a .site < 256 → issueAt s a ≡ issue.Given stamp last → x ≡ stored a stamp → x .stamp < 2 ^ 63
+unfolding stored
+stored-small s a b g e = rw e (stamp-small s a b g)

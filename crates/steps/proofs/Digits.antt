@@ -2,14 +2,13 @@
 use Prim.Native.Nat.{ℕ, _-_, _<_, _≤_}
 use mathlib.Core.Bool.{Bool, true, false, not, _&&_}
 use mathlib.Core.Path.{_≡_, refl, sym, _∙_}
-use native.Mathlib.Omega.{arith}
 use borrow.Author.Tests.{leb-true, lt-leb, le-leb, not-false}
 use lib.Dec.{leb}
 use lib.IntN.{ℤ}
 use mir.Facts.{toZ-ofZ, sfits-widen}
 use mir.Syntax.{w32, w64}
 use mir.Val.{SFits, toZ, ofZ}
-use Rattle.kit.proofs.Bools.{and-left, and-right}
+use Rattle.kit.proofs.Bools.{and-left}
 
 pub not-not : (b : Bool) → b ≡ not (not b)
 not-not true = refl
@@ -25,15 +24,8 @@ digit-some n d h = rw (le-leb 1 d h)
 
 pub ruleset digits = (digit-none, digit-some)
 
-module _ (b : Bool) (n d x : ℕ) (e : x ≡ d) (h : b ≡ (leb 1 d && leb d n)) (t : not b ≡ false) where
-  digit-is : (leb 1 d && leb d n) ≡ true
-  digit-is = sym h ∙ not-false b t
-
-  pub digit-low : 1 ≤ x
-  digit-low = rw e (leb-true 1 d (and-left _ _ digit-is))
-
-  pub digit-high : n ≤ 7 → x - 1 < 7
-  digit-high l = let k : d ≤ n = leb-true d n (and-right (leb 1 d) _ digit-is) in omega (arith, digit-low)
+pub digit-low : (n d : ℕ) {b : Bool} → b ≡ (leb 1 d && leb d n) → not b ≡ false → 1 ≤ d
+digit-low n d {b} h t = leb-true 1 d (and-left (leb 1 d) (leb d n) (sym h ∙ not-false b t))
 
 -- ---- a number of 32 bits is one of 64
 

@@ -3,9 +3,13 @@ mod Digits
 mod Found
 mod AtSites
 mod Sending
+mod AtHearing
 mod Retiring
 mod Beginning
+mod Summaries
+mod Settling
 mod Advancing
+mod Arms
 -- The conditions of a step, and that each step keeps the table sound.
 pub mod Allowed
 pub mod Upkeep

@@ -2,63 +2,75 @@
 use Prim.Native.Nat.{ℕ, _+_, _<_, _≤_}
 use mathlib.Core.Bool.{Bool, true, false, not, _&&_}
 use mathlib.Core.List.{List}
-use mathlib.Core.Path.{_≡_, refl, ap, _∙_}
+use mathlib.Core.Path.{_≡_, refl, sym, ap, _∙_}
 use native.Mathlib.Omega.{arith}
-use borrow.Author.Tests.{ne-eqb, lt-ltb, le-ltb, not-true, not-false}
+use borrow.Author.Tests.{eq-eqb, ne-eqb, lt-ltb, le-ltb, not-true, not-false}
 use lib.Dec.{eqb, ltb}
 use lib.IntN.{pos}
-use lib.ListN.{set}
+use lib.ListN.{length, getD, set}
+use lib.Seq.{set-out}
+use Rattle.kit.proofs.Bools.{of-cond}
 use Rattle.kit.proofs.Changes.{changed-none, changed-turn}
 use Rattle.kit.specs.Lists.{changed}
 use Rattle.kit.specs.Range.{any}
-use Rattle.record.specs.declared.Step.{Step}
-use Rattle.table.specs.Places.{noSite, siteAt, messageAt, verdictAt, isSite, withSite, withSites, withRequest}
+use Rattle.table.specs.Places.{noSite, noMessage, siteAt, withSite, withSites}
+use Rattle.table.specs.declared.data.Message.{Message}
 use Rattle.table.specs.declared.data.Table.{Table}
-use Rattle.vote.specs.Data.{isOpen, noVote, blankRequest, withKnown, withVotes}
+use Rattle.vote.specs.Data.{isOpen, noVote, voteAt, blankRequest, withKnown, withVotes}
 use Rattle.vote.specs.Voters.{clearVoters}
 use Rattle.vote.specs.declared.data.Request.{Request}
 use Rattle.vote.specs.declared.data.Site.{Site}
-use Rattle.steps.specs.Answers.{refusedAs, steppedAs}
-use Rattle.steps.specs.Numbers.{placeOf, cannotRetire, retireNumber}
-use Rattle.steps.specs.Steps.{unlessRefused, doneQuietly, forgotten, retired}
-use Rattle.steps.specs.declared.answer.Stepped.{Stepped}
+use Rattle.vote.specs.declared.data.Vote.{Vote}
+use Rattle.steps.specs.Pieces.{results, unretired, retireNumberOf, retirePlan}
+use Rattle.steps.specs.Steps.{forgotten}
+use Rattle.steps.specs.declared.answer.Answer.{Answer}
+use Rattle.steps.specs.declared.retire.Leaving.{Leaving}
 
 -- ---- one site, one message
 
 pub open-beyond : (k n : ℕ) (b : Bool) {i : ℕ} → i ≡ n → i ≤ k → false ≡ (ltb k n && b)
 open-beyond k n b e l = rw (le-ltb k n (omega arith))
 
-pub open-within : (k n : ℕ) {b r : Bool} {i : ℕ} → i ≡ n → k < i → r ≡ b → r ≡ (ltb k n && b)
-open-within k n e l h = rw (lt-ltb k n (omega arith)) h
+pub open-within : (k n : ℕ) {r : Bool} {i : ℕ} {v : Vote} (w : Vote) → i ≡ n → k < i → v ≡ w → r ≡ isOpen (v .verdict) → r ≡ (ltb k n && isOpen (w .verdict))
+open-within k n w e l f h = rw (lt-ltb k n (omega arith), ← f) h
 
 pub named-unused : (u b : Bool) → not u ≡ true → false ≡ (u && b)
 named-unused u b h = rw (not-true u h)
 
-pub named-used : (u : Bool) (i r p : ℕ) → not u ≡ false → i ≡ r → eqb i p ≡ (u && eqb r p)
-named-used u i r p h e = rw (not-false u h, e)
+pub named-used : (u : Bool) (r p : ℕ) → not u ≡ false → eqb r p ≡ (u && eqb r p)
+named-used u r p h = rw (not-false u h)
 
 -- ---- what is forgotten
 
+pub vote-beyond : (votes : List Vote) (p : ℕ) {i : ℕ} → length votes ≡ 16 → i ≡ p → 15 < i → votes ≡ set votes p noVote
+vote-beyond votes p l e h = let k : length votes ≤ p = omega arith in sym (set-out votes p noVote k)
+
+pub vote-cleared : (votes : List Vote) (p : ℕ) {i : ℕ} → i ≡ p → set votes i noVote ≡ set votes p noVote
+vote-cleared votes p e = rw e
+
 pub forget-is
-    : (p : ℕ) (s : Site) {oks others : List Bool} → oks ≡ clearVoters (s .oks) p → others ≡ clearVoters (s .others) p
-    → withVotes (set (s .votes) p noVote) (withKnown oks others s) ≡ forgotten p 0 s
+    : (p : ℕ) (s : Site) {votes : List Vote} {oks others : List Bool} → votes ≡ set (s .votes) p noVote → oks ≡ clearVoters (s .oks) p → others ≡ clearVoters (s .others) p
+    → withVotes votes (withKnown oks others s) ≡ forgotten p 0 s
 unfolding forgotten
-forget-is p s e f = rw (e, f)
+forget-is p s d e f = rw (d, e, f)
 
 -- the place of the site says nothing
 any-site : (p j k : ℕ) (s : Site) → forgotten p j s ≡ forgotten p k s
 unfolding forgotten
 any-site p j k s = refl
 
-pub record Forgot (p : ℕ) (t : Table) (k : ℕ) (u : Table) : Type 0 where
-  pub in-range : k ≤ 7
+-- after k turns the first k sites of t have forgotten place p; n will
+pub record Forgot (p n : ℕ) (t : Table) (k : ℕ) (u : Table) : Type 0 where
+  pub few : n ≤ 7
+  pub in-range : k ≤ n
   pub so-far : u ≡ withSites (changed k (forgotten p) (t .sites)) t
 
-pub forgot-none : {p : ℕ} {t : Table} → Forgot p t 0 t
-forgot-none {p} {t} = record { in-range = omega arith; so-far = rw (changed-none (forgotten p) (t .sites)) }
+pub forgot-none : {p n : ℕ} {t : Table} → n ≤ 7 → Forgot p n t 0 t
+forgot-none {p} {n} {t} h = record { few = h; in-range = omega arith; so-far = rw (changed-none (forgotten p) (t .sites)) }
 
-pub forgot-more : {p : ℕ} {t : Table} {k : ℕ} {u : Table} {s : Site} → Forgot p t k u → k < 7 → s ≡ forgotten p 0 (siteAt u k) → Forgot p t (k + 1) (withSite k s u)
-forgot-more {p} {t} {k} {u} {s} f l e = record {
+pub forgot-more : {p n : ℕ} {t : Table} {k : ℕ} {u : Table} {s : Site} → Forgot p n t k u → k < n → s ≡ forgotten p 0 (siteAt u k) → Forgot p n t (k + 1) (withSite k s u)
+forgot-more {p} {n} {t} {k} {u} {s} f l e = record {
+  few = f .few;
   in-range = omega arith;
   so-far =
       ap (λ (a : Site). withSite k a u) (e ∙ any-site p 0 k (siteAt u k))
@@ -66,30 +78,33 @@ forgot-more {p} {t} {k} {u} {s} f l e = record {
       ∙ ap (withSites (changed (k + 1) (forgotten p) (t .sites))) (f .so-far);
 }
 
-pub forgot-all : {p : ℕ} {t : Table} {k : ℕ} {u : Table} → Forgot p t k u → 7 ≤ k → u ≡ withSites (changed 7 (forgotten p) (t .sites)) t
-forgot-all {p} {t} {k} {u} f l = let e : 7 ≡ k = omega (arith, f .in-range) in rw e (f .so-far)
-
-pub ruleset forgets = (forgot-none, forgot-more, forgot-all, arith)
+pub forgot-all : {p n : ℕ} {t : Table} {k : ℕ} {u : Table} → Forgot p n t k u → n ≤ k → u ≡ withSites (changed n (forgotten p) (t .sites)) t
+forgot-all {p} {n} {t} {k} {u} f l = let e : n ≡ k = omega (arith, f .in-range) in rw e (f .so-far)
 
 -- ---- the step
 
-module _ (t : Table) (a : Step) {z : Stepped} where
-  pub retire-unknown : placeOf t (a .stamp) ≡ 16 → z ≡ refusedAs 10 t → z ≡ unlessRefused (retireNumber t a) (retired t a) t
-  unfolding retireNumber
-  retire-unknown f r = rw f r
+module _ (n : ℕ) (sites : List Site) (messages : List Message) (p : ℕ) (q : Request) where
+  -- all sites are to forget, or none
+  pub few-forget : {c : Leaving} → c ≡ retirePlan n sites messages p q → c .forgetting ≤ 7
+  unfolding retirePlan
+  few-forget e = rw e (of-cond (λ (c : Leaving). c .forgetting ≤ 7) (eqb (retireNumberOf n sites messages p) 0) (λ y. omega arith) (λ y. omega arith))
 
-  module _ (p : ℕ) (f : placeOf t (a .stamp) ≡ p) (l : p ≤ 15) {b : Bool} (h : b ≡ any 7 (λ k. isSite t k && isOpen (verdictAt t k p))) where
-    pub retire-open : b ≡ true → z ≡ refusedAs 14 t → z ≡ unlessRefused (retireNumber t a) (retired t a) t
-    unfolding retireNumber cannotRetire
-    retire-open n r = rw (f, ne-eqb p 16 (λ x. omega arith), ← h, n) r
+  pub retire-unknown : {z : Leaving} → p ≡ 16 → z ≡ unretired 10 q → z ≡ retirePlan n sites messages p q
+  unfolding retirePlan retireNumberOf
+  retire-unknown e r = rw (eq-eqb p 16 e) r
 
-    module _ (n : b ≡ false) {c : Bool} (g : c ≡ any 64 (λ j. messageAt t j .used && eqb (messageAt t j .request) p)) where
-      pub retire-named : c ≡ true → z ≡ refusedAs 14 t → z ≡ unlessRefused (retireNumber t a) (retired t a) t
-      unfolding retireNumber cannotRetire
-      retire-named m r = rw (f, ne-eqb p 16 (λ x. omega arith), ← h, n, ← g, m) r
+  module _ (e : p ≡ 16 → ⊥) {b : Bool} (h : b ≡ any 7 (λ k. ltb k n && isOpen (voteAt (getD sites k noSite .votes) p .verdict))) where
+    pub retire-open : {z : Leaving} → b ≡ true → z ≡ unretired 14 q → z ≡ retirePlan n sites messages p q
+    unfolding retirePlan retireNumberOf
+    retire-open t r = rw (ne-eqb p 16 e, ← h, t) r
+
+    module _ (t : b ≡ false) {c : Bool} (g : c ≡ any 64 (λ j. getD messages j noMessage .used && eqb (getD messages j noMessage .request) p)) where
+      pub retire-named : {z : Leaving} → c ≡ true → z ≡ unretired 14 q → z ≡ retirePlan n sites messages p q
+      unfolding retirePlan retireNumberOf
+      retire-named m r = rw (ne-eqb p 16 e, ← h, t, ← g, m) r
 
       pub retire-done
-          : {u : Table} {q : Request} → c ≡ false → u ≡ withSites (changed 7 (forgotten p) (t .sites)) t → q ≡ blankRequest
-          → z ≡ steppedAs (doneQuietly (pos 0) 0 (withRequest p q u)) → z ≡ unlessRefused (retireNumber t a) (retired t a) t
-      unfolding retireNumber cannotRetire retired
-      retire-done m hu hq r = rw (f, ne-eqb p 16 (λ x. omega arith), ← h, n, ← g, m) (rw (hq, hu) at r)
+          : {a : Answer} {x : Request} → c ≡ false → a ≡ results (pos 0) 0 0 0 → x ≡ blankRequest
+          → _≡_ {A = Leaving} (record { answer = a; request = x; forgetting = 7 }) (retirePlan n sites messages p q)
+      unfolding retirePlan retireNumberOf
+      retire-done m ha hx = rw (ne-eqb p 16 e, ← h, t, ← g, m, ha, hx)

@@ -2,33 +2,29 @@
 use Prim.Native.Nat.{ℕ, _-_, _^_, _<_, _≤_}
 use mathlib.Core.Bool.{Bool, true, false, not, _&&_, _||_, cond}
 use mathlib.Core.List.{List}
-use mathlib.Core.Path.{_≡_, sym, ap, _∙_}
+use mathlib.Core.Path.{_≡_}
 use native.Mathlib.Omega.{arith}
 use borrow.Author.Tests.{eq-eqb, ne-eqb, lt-ltb, le-ltb}
-use lib.Dec.{eqb, leb}
+use lib.Dec.{leb, ltb}
 use lib.IntN.{pos}
-use lib.ListN.{length, List·getD-eq-default}
 use mir.Facts.{toZ-pos}
 use mir.Syntax.{w64}
 use mir.Val.{toZ}
-use Rattle.kit.specs.Range.{first}
-use Rattle.record.specs.declared.Step.{Step}
 use Rattle.table.specs.Fresh.{blankMessage}
-use Rattle.table.specs.Places.{noSite, siteAt, messageAt, withSite, withMessage}
 use Rattle.table.specs.declared.data.Message.{Message}
-use Rattle.table.specs.declared.data.Table.{Table}
-use Rattle.vote.specs.Data.{isOk, isOther, isOpen, voteAt}
+use Rattle.vote.specs.Data.{isOk, isOther, isOpen, voteAt, blankRequest}
 use Rattle.vote.specs.Voters.{votersOf, noRow}
+use Rattle.vote.specs.declared.data.Head.{Head}
+use Rattle.vote.specs.declared.data.Request.{Request}
 use Rattle.vote.specs.declared.data.Site.{Site}
 use Rattle.vote.specs.declared.data.Vote.{Vote}
-use Rattle.walk.specs.Hearing.{received}
-use Rattle.walk.specs.Walking as walking
-use Rattle.walk.specs.declared.walking.Settled.{Settled}
-use Rattle.steps.specs.Answers.{refusedAs, steppedAs}
-use Rattle.steps.specs.Numbers.{freeMessage, placeOf, cannotTell, noMessageAt, tellNumber, deliverNumber, dropNumber}
-use Rattle.steps.specs.Steps.{unlessRefused, doneQuietly, messageFrom, told, delivered, dropped}
-use Rattle.steps.specs.declared.answer.Stepped.{Stepped}
-use Rattle.steps.proofs.Found.{message-some, message-none}
+use Rattle.steps.specs.Pieces.{results, postedAs, tellNumberOf, tellPlan, dropNumberOf, dropPlan, keptAs, receivedAlone, settledAlone, deliverNumberOf, deliveredAlone, deliverPlan}
+use Rattle.steps.specs.Steps.{messageFrom}
+use Rattle.steps.specs.declared.answer.Answer.{Answer}
+use Rattle.steps.specs.declared.hearing.Heard.{Heard}
+use Rattle.steps.specs.declared.hearing.Ruling.{Ruling}
+use Rattle.steps.specs.declared.messages.Delivery.{Delivery}
+use Rattle.steps.specs.declared.messages.Post.{Post}
 
 -- ---- what is told
 
@@ -46,107 +42,104 @@ message-is s p from to hv hb ho hx = rw (ho, hx, hb, hv)
 
 -- ---- tell
 
-module _ (t : Table) (a : Step) {b : Bool} (h : b ≡ (leb 1 (a .site) && leb (a .site) (t .count))) where
-  pub tell-from : {z : Stepped} → not b ≡ true → z ≡ refusedAs 3 t → z ≡ unlessRefused (tellNumber t a) (told t a) t
-  unfolding tellNumber
-  tell-from n r = rw (← h, n) r
+module _ (n from to : ℕ) (s : Site) (p j : ℕ) (m : Message) {b : Bool} (h : b ≡ (leb 1 from && leb from n)) where
+  pub tell-from : {z : Post} → not b ≡ true → z ≡ postedAs 3 m → z ≡ tellPlan n from to s p j m
+  unfolding tellPlan tellNumberOf
+  tell-from t r = rw (← h, t) r
 
-  module _ (n : not b ≡ false) {c : Bool} (g : c ≡ (leb 1 (a .to) && leb (a .to) (t .count))) where
-    pub tell-to : {z : Stepped} → not c ≡ true → z ≡ refusedAs 3 t → z ≡ unlessRefused (tellNumber t a) (told t a) t
-    unfolding tellNumber
-    tell-to m r = rw (← h, n, ← g, m) r
+  module _ (t : not b ≡ false) {c : Bool} (g : c ≡ (leb 1 to && leb to n)) where
+    pub tell-to : {z : Post} → not c ≡ true → z ≡ postedAs 3 m → z ≡ tellPlan n from to s p j m
+    unfolding tellPlan tellNumberOf
+    tell-to u r = rw (← h, t, ← g, u) r
 
-    module _ (m : not c ≡ false) (i : ℕ) (e : i ≡ a .site) where
-      pub tell-down : {z : Stepped} → not (siteAt t (i - 1) .up) ≡ true → z ≡ refusedAs 4 t → z ≡ unlessRefused (tellNumber t a) (told t a) t
-      unfolding tellNumber
-      tell-down u r = rw (← h, n, ← g, m, ← e, u) r
+    module _ (u : not c ≡ false) where
+      pub tell-down : {z : Post} → not (s .up) ≡ true → z ≡ postedAs 4 m → z ≡ tellPlan n from to s p j m
+      unfolding tellPlan tellNumberOf
+      tell-down d r = rw (← h, t, ← g, u, d) r
 
-      module _ (u : not (siteAt t (i - 1) .up) ≡ false) where
-        pub tell-unknown : {z : Stepped} → placeOf t (a .stamp) ≡ 16 → z ≡ refusedAs 10 t → z ≡ unlessRefused (tellNumber t a) (told t a) t
-        unfolding tellNumber
-        tell-unknown f r = rw (← h, n, ← g, m, ← e, u, f) r
+      module _ (d : not (s .up) ≡ false) where
+        pub tell-unknown : {z : Post} → p ≡ 16 → z ≡ postedAs 10 m → z ≡ tellPlan n from to s p j m
+        unfolding tellPlan tellNumberOf
+        tell-unknown e r = rw (← h, t, ← g, u, d, eq-eqb p 16 e) r
 
-        module _ (p : ℕ) (f : placeOf t (a .stamp) ≡ p) (l : p ≤ 15) {w : Bool}
-            (k : w ≡ ((isOk (voteAt (siteAt t (i - 1) .votes) p .mark) || isOther (voteAt (siteAt t (i - 1) .votes) p .mark)) || not (isOpen (voteAt (siteAt t (i - 1) .votes) p .verdict)))) where
-          pub tell-wordless : {z : Stepped} → not w ≡ true → z ≡ refusedAs 11 t → z ≡ unlessRefused (tellNumber t a) (told t a) t
-          unfolding tellNumber cannotTell
-          tell-wordless q r = rw (← h, n, ← g, m, ← e, u, f, ne-eqb p 16 (λ x. omega arith), ← k, q) r
+        module _ (e : p ≡ 16 → ⊥) {v : Vote} (hv : v ≡ voteAt (s .votes) p) {w : Bool} (k : w ≡ ((isOk (v .mark) || isOther (v .mark)) || not (isOpen (v .verdict)))) where
+          pub tell-wordless : {z : Post} → not w ≡ true → z ≡ postedAs 11 m → z ≡ tellPlan n from to s p j m
+          unfolding tellPlan tellNumberOf
+          tell-wordless q r = rw (← h, t, ← g, u, d, ne-eqb p 16 e, ← hv, ← k, q) r
 
-          pub tell-self : {z : Stepped} → not w ≡ false → a .site ≡ a .to → z ≡ refusedAs 11 t → z ≡ unlessRefused (tellNumber t a) (told t a) t
-          unfolding tellNumber cannotTell
-          tell-self q o r = rw (← h, n, ← g, m, ← e, u, f, ne-eqb p 16 (λ x. omega arith), ← k, q, eq-eqb i (a .to) (e ∙ o)) r
+          module _ (q : not w ≡ false) where
+            pub tell-self : {z : Post} → from ≡ to → z ≡ postedAs 11 m → z ≡ tellPlan n from to s p j m
+            unfolding tellPlan tellNumberOf
+            tell-self o r = rw (← h, t, ← g, u, d, ne-eqb p 16 e, ← hv, ← k, q, eq-eqb from to o) r
 
-          -- all but the free place is as it should be
-          pub tell-rest : not w ≡ false → (a .site ≡ a .to → ⊥) → tellNumber t a ≡ cond (eqb (freeMessage t) 64) 12 0
-          unfolding tellNumber cannotTell
-          tell-rest q o = rw (← h, n, ← g, m, ← e, u, f, ne-eqb p 16 (λ x. omega arith), ← k, q, ne-eqb i (a .to) (λ x. o (sym e ∙ x)))
+            module _ (o : from ≡ to → ⊥) where
+              pub tell-full : {z : Post} → j ≡ 64 → z ≡ postedAs 12 m → z ≡ tellPlan n from to s p j m
+              unfolding tellPlan tellNumberOf
+              tell-full f r = rw (← h, t, ← g, u, d, ne-eqb p 16 e, ← hv, ← k, q, ne-eqb from to o, eq-eqb j 64 f) r
 
-module _ (t : Table) (a : Step) {z : Stepped} (h : tellNumber t a ≡ cond (eqb (freeMessage t) 64) 12 0) (j : ℕ) where
-  pub tell-full : j ≡ first 64 (λ k. not (messageAt t k .used)) → 63 < j → z ≡ refusedAs 12 t → z ≡ unlessRefused (tellNumber t a) (told t a) t
-  tell-full e l r = rw (h, message-none t j e l) r
+              -- the number is 0
+              tell-allowed : (j ≡ 64 → ⊥) → tellNumberOf n from to s p j ≡ 0
+              unfolding tellNumberOf
+              tell-allowed f = rw (← h, t, ← g, u, d, ne-eqb p 16 e, ← hv, ← k, q, ne-eqb from to o, ne-eqb j 64 f)
 
-  pub tell-done
-      : j ≡ first 64 (λ k. not (messageAt t k .used)) → j ≤ 63 → (p : ℕ) → placeOf t (a .stamp) ≡ p → (i : ℕ) → i ≡ a .site → {s : Message}
-      → s ≡ messageFrom (siteAt t (i - 1)) p (a .site - 1) (a .to - 1) → z ≡ steppedAs (doneQuietly (toZ w64 j) 0 (withMessage j s t))
-      → z ≡ unlessRefused (tellNumber t a) (told t a) t
-  unfolding told
-  tell-done e l p f i g hs r =
-      let k : j < 2 ^ 63 = omega arith in
-      rw (h, message-some t j e, ne-eqb j 64 (λ v. omega arith), f) (rw (hs, g, toZ-pos w64 k) at r)
+              pub tell-done
+                  : {a : Answer} {x : Message} → (j ≡ 64 → ⊥) → j < 256 → a ≡ results (toZ w64 j) 0 0 0 → x ≡ messageFrom s p (from - 1) (to - 1)
+                  → _≡_ {A = Post} (record { answer = a; message = x }) (tellPlan n from to s p j m)
+              unfolding tellPlan
+              tell-done f l ha hx = let i : j < 2 ^ 63 = omega arith in rw (tell-allowed f, ha, hx, toZ-pos w64 i)
 
 -- ---- deliver and drop
-
--- there is no such site
-no-site : (t : Table) (k : ℕ) → length (t .sites) ≡ 7 → 6 < k → siteAt t k .up ≡ false
-no-site t k l h = ap (λ (s : Site). s .up) (List·getD-eq-default (t .sites) noSite (omega arith))
-
-pub empty-is : (t : Table) (j : ℕ) {m : Message} → m ≡ blankMessage → withMessage j m t ≡ withMessage j blankMessage t
-empty-is t j e = rw e
 
 below-64 : {j : ℕ} → j ≤ 63 → j < 64
 below-64 l = omega arith
 
-module _ (t : Table) (a : Step) (j : ℕ) (e : j ≡ a .place) where
-  pub drop-out : {z : Stepped} → 63 < j → z ≡ refusedAs 13 t → z ≡ unlessRefused (dropNumber t a) (dropped t a) t
-  unfolding dropNumber noMessageAt
-  drop-out l r = rw (← e, le-ltb j 64 l) r
+below-7 : {j : ℕ} → j ≤ 6 → j < 7
+below-7 l = omega arith
 
-  pub deliver-out : {z : Stepped} → 63 < j → z ≡ refusedAs 13 t → z ≡ unlessRefused (deliverNumber t a) (delivered t a) t
-  unfolding deliverNumber noMessageAt
-  deliver-out l r = rw (← e, le-ltb j 64 l) r
+module _ (j : ℕ) (m : Message) where
+  pub drop-out : {z : Post} → 63 < j → z ≡ postedAs 13 m → z ≡ dropPlan j m
+  unfolding dropPlan dropNumberOf
+  drop-out l r = rw (le-ltb j 64 l) r
+
+  pub drop-unused : {z : Post} → j ≤ 63 → not (m .used) ≡ true → z ≡ postedAs 13 m → z ≡ dropPlan j m
+  unfolding dropPlan dropNumberOf
+  drop-unused l u r = rw (lt-ltb j 64 (below-64 l), u) r
+
+  pub drop-done
+      : {a : Answer} {x : Message} → j ≤ 63 → not (m .used) ≡ false → a ≡ results (pos 0) 0 0 0 → x ≡ blankMessage
+      → _≡_ {A = Post} (record { answer = a; message = x }) (dropPlan j m)
+  unfolding dropPlan dropNumberOf
+  drop-done l u ha hx = rw (lt-ltb j 64 (below-64 l), u, ha, hx)
+
+pub request-there : (p : ℕ) (q : Request) → p ≤ 15 → q ≡ cond (ltb p 16) q blankRequest
+request-there p q h = let l : p < 16 = omega arith in rw (lt-ltb p 16 l)
+
+pub request-none : (p : ℕ) (q : Request) {r : Request} → 15 < p → r ≡ blankRequest → r ≡ cond (ltb p 16) q blankRequest
+request-none p q h e = rw (le-ltb p 16 h) e
+
+module _ (n j : ℕ) (m : Message) (heads : List Head) (s : Site) (q : Request) where
+  pub deliver-out : {z : Delivery} → 63 < j → z ≡ keptAs 13 s → z ≡ deliverPlan n j m heads s q
+  unfolding deliverPlan deliverNumberOf
+  deliver-out l r = rw (le-ltb j 64 l) r
 
   module _ (l : j ≤ 63) where
-    pub drop-unused : {z : Stepped} → not (messageAt t j .used) ≡ true → z ≡ refusedAs 13 t → z ≡ unlessRefused (dropNumber t a) (dropped t a) t
-    unfolding dropNumber noMessageAt
-    drop-unused u r = rw (← e, lt-ltb j 64 (below-64 l), u) r
+    pub deliver-unused : {z : Delivery} → not (m .used) ≡ true → z ≡ keptAs 13 s → z ≡ deliverPlan n j m heads s q
+    unfolding deliverPlan deliverNumberOf
+    deliver-unused u r = rw (lt-ltb j 64 (below-64 l), u) r
 
-    pub drop-done
-        : {z : Stepped} {u : Table} → not (messageAt t j .used) ≡ false → u ≡ withMessage j blankMessage t → z ≡ steppedAs (doneQuietly (pos 0) 0 u)
-        → z ≡ unlessRefused (dropNumber t a) (dropped t a) t
-    unfolding dropNumber noMessageAt dropped
-    drop-done u hu r = rw (← e, lt-ltb j 64 (below-64 l), u) (rw hu at r)
+    module _ (u : not (m .used) ≡ false) where
+      pub deliver-nobody : {z : Delivery} → 6 < m .to → z ≡ keptAs 4 s → z ≡ deliverPlan n j m heads s q
+      unfolding deliverPlan deliverNumberOf
+      deliver-nobody o r = rw (lt-ltb j 64 (below-64 l), u, le-ltb (m .to) 7 o) r
 
-    pub deliver-unused : {z : Stepped} → not (messageAt t j .used) ≡ true → z ≡ refusedAs 13 t → z ≡ unlessRefused (deliverNumber t a) (delivered t a) t
-    unfolding deliverNumber noMessageAt
-    deliver-unused u r = rw (← e, lt-ltb j 64 (below-64 l), u) r
+      module _ (o : m .to ≤ 6) where
+        pub deliver-down : {z : Delivery} → not (s .up) ≡ true → z ≡ keptAs 4 s → z ≡ deliverPlan n j m heads s q
+        unfolding deliverPlan deliverNumberOf
+        deliver-down d r = rw (lt-ltb j 64 (below-64 l), u, lt-ltb (m .to) 7 (below-7 o), d) r
 
-    module _ (u : not (messageAt t j .used) ≡ false) (k : ℕ) (f : k ≡ messageAt t j .to) where
-      pub deliver-nobody : {z : Stepped} → 6 < k → length (t .sites) ≡ 7 → z ≡ refusedAs 4 t → z ≡ unlessRefused (deliverNumber t a) (delivered t a) t
-      unfolding deliverNumber noMessageAt
-      deliver-nobody o s r = rw (← e, lt-ltb j 64 (below-64 l), u, ← f, no-site t k s o) r
-
-      pub deliver-down : {z : Stepped} → not (siteAt t k .up) ≡ true → z ≡ refusedAs 4 t → z ≡ unlessRefused (deliverNumber t a) (delivered t a) t
-      unfolding deliverNumber noMessageAt
-      deliver-down d r = rw (← e, lt-ltb j 64 (below-64 l), u, ← f, d) r
-
-      pub deliver-done
-          : not (siteAt t k .up) ≡ false → {out : Settled}
-          → out ≡ walking.answerOf (received (messageAt t j .to) (t .count) (t .requests) (siteAt t k) (messageAt t j .request) (messageAt t j .verdict) (messageAt t j .oks) (messageAt t j .others))
-          → _≡_ {A = Stepped}
-          (record {
-            answer = record { number = 0; first = pos 0; second = 0; accepted = out .accepted; rejected = out .rejected };
-            table = withSite k (out .site) t;
-          })
-          (unlessRefused (deliverNumber t a) (delivered t a) t)
-      unfolding deliverNumber noMessageAt delivered
-      deliver-done d ho = rw (← e, lt-ltb j 64 (below-64 l), u, ← f, d) (rw (ho, ← f))
+        pub deliver-done
+            : {named : Request} {h : Heard} {r : Ruling} → not (s .up) ≡ false → named ≡ cond (ltb (m .request) 16) q blankRequest
+            → h ≡ receivedAlone n (m .to) heads s (m .request) named (m .verdict) (m .oks) (m .others) → r ≡ settledAlone h (m .request) named
+            → _≡_ {A = Delivery} (record { answer = results (pos 0) 0 (r .accepted) (r .rejected); site = r .site; due = r .due }) (deliverPlan n j m heads s q)
+        unfolding deliverPlan deliverNumberOf deliveredAlone
+        deliver-done d hq hh hr = rw (lt-ltb j 64 (below-64 l), u, lt-ltb (m .to) 7 (below-7 o), d, hr, hh, hq)

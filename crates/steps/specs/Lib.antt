@@ -1,5 +1,6 @@
--- What the contracts of `steps` cite: document 01, "Steps" and "Numbers given back", on the whole table.
+-- What the contracts of `steps` cite: document 01, "Steps" and "Numbers given back", on the whole table; and each step on its pieces.
 pub mod Answers
 pub mod Numbers
 pub mod Steps
 pub mod Night
+pub mod Pieces

@@ -1,6 +1,7 @@
 // What a step gives back.
 ghost use mathlib.Core.Path.{_≡_};
-ghost use Rattle.steps.specs.Answers.{refusedAs};
+ghost use Rattle.steps.specs.Answers.{refusal};
+ghost use Rattle.steps.specs.Pieces.{results};
 use table::data::Table;
 
 // Document 01's number, the two results, how many requests the step accepted and rejected at its site. The first result of a read may be
@@ -19,18 +20,28 @@ pub struct Stepped {
     pub table: Table,
 }
 
-// A step refused: zeros beside its number, and the table as it came.
-pub(crate) fn refuse(number: u8, table: Table) -> Stepped
-    ensures { λ r. ⌜ r ≡ refusedAs number table ⌝ }
+// The answer of a step refused: zeros beside its number.
+pub(crate) fn refuse(number: u8) -> Answer
+    ensures { λ r. ⌜ r ≡ refusal number ⌝ }
 {
-    Stepped {
-        answer: Answer {
-            number,
-            first: 0,
-            second: 0,
-            accepted: 0,
-            rejected: 0,
-        },
-        table,
+    Answer {
+        number,
+        first: 0,
+        second: 0,
+        accepted: 0,
+        rejected: 0,
+    }
+}
+
+// The answer of a step done at which nothing is ruled.
+pub(crate) fn give(first: i64, second: u64) -> Answer
+    ensures { λ r. ⌜ r ≡ results first second 0 0 ⌝ }
+{
+    Answer {
+        number: 0,
+        first,
+        second,
+        accepted: 0,
+        rejected: 0,
     }
 }

@@ -1,28 +1,29 @@
 // Step 1, begin.
 ghost use mathlib.Core.Path.{_≡_};
-ghost use Prim.Native.Nat.{_-_, _≤_, _<_};
+ghost use Prim.Native.Nat.{_^_, _<_};
 ghost use mathlib.Core.Bool.{cond};
 ghost use lib.IntN.{pos};
 ghost use lib.ListN.{getD};
 ghost use Rattle.kit.specs.Lists.{listed};
 ghost use Rattle.sets.specs.Sets.{member};
-ghost use Rattle.stamps.specs.declared.Issue.the-variants.{Given};
-ghost use Rattle.steps.specs.Answers.{steppedAs};
-ghost use Rattle.steps.specs.Numbers.{freePlace, beginNumber};
-ghost use Rattle.steps.specs.Steps.{stored, issueFor, begun, unlessRefused};
+ghost use Rattle.steps.specs.Pieces.{unbegun, enteredAlone, beginPlan};
+ghost use Rattle.steps.specs.Steps.{stored};
 use crate::answer::Answer;
-use crate::answer::Stepped;
 use crate::answer::refuse;
-use crate::places::free_place;
+use crate::hearing::settle;
+use crate::hearing::take_up;
+use crate::places::clamp;
 use crate::sites::is_site;
 use record::Step;
 use stamps::Issue;
-use table::data::Table;
 use table::requests::are_base_stamps_allowed;
 use table::requests::are_sets_allowed;
 use table::requests::are_values_allowed;
+use vote::data::Head;
 use vote::data::Request;
-use walk::hearing::take_up;
+use vote::data::Site;
+use vote::data::Verdict;
+use vote::requests::head_of;
 
 fn stamp_if(taken: bool, stamp: u64) -> u64
     ensures { λ r. ⌜ r ≡ cond taken stamp 0 ⌝ }
@@ -75,66 +76,79 @@ fn stored_request(a: Step, stamp: u64) -> Request
     }
 }
 
-// The request stored at place p, the site's last t moved on, and the request considered there.
-fn enter(mut t: Table, a: Step, k: usize, p: usize, stamp: u64, last: u32) -> Stepped
-    requires { ⌜ k < 7 ⌝ }
-    requires { ⌜ k ≡ a .site - 1 ⌝ }
-    requires { ⌜ p < 16 ⌝ }
-    requires { ⌜ freePlace t ≡ p ⌝ }
-    requires { ⌜ issueFor t a ≡ Given stamp last ⌝ }
-    ensures { λ r. ⌜ r ≡ steppedAs (begun t a) ⌝ }
+// The answer, what stands at the request place now, the site, and the verdict that is left to `resolve`: Open where none.
+pub struct Entry {
+    pub answer: Answer,
+    pub request: Request,
+    pub site: Site,
+    pub due: Verdict,
+}
+
+// A request place and a site that are left as they were.
+fn leave_out(number: u8, request: Request, site: Site) -> Entry
+    ensures { λ r. ⌜ r ≡ unbegun number request site ⌝ }
 {
-    let q = stored_request(a, stamp);
-    t.requests[p] = q;
-    t.sites[k].last = last;
-    let rs = t.requests;
-    let out = take_up(rs, t.sites[k], t.count, k as u8, p as u8);
-    let site = out.site;
-    t.sites[k] = site;
-    Stepped {
-        answer: Answer {
-            number: 0,
-            first: stamp as i64,
-            second: p as u64,
-            accepted: out.accepted,
-            rejected: out.rejected,
-        },
-        table: t,
+    Entry {
+        answer: refuse(number),
+        request,
+        site,
+        due: Verdict::Open,
     }
 }
 
-pub(crate) fn begin(t: Table, a: Step) -> Stepped
-    requires { ⌜ t .count ≤ 7 ⌝ }
-    ensures { λ r. ⌜ r ≡ unlessRefused (beginNumber t a) (begun t a) t ⌝ }
+// The request stored at place p, the site's last t moved on, and the request considered there.
+fn enter(n: u8, me: u8, mut heads: [Head; 16], mut s: Site, p: u8, q: Request, last: u32) -> Entry
+    requires { ⌜ q .stamp < 2 ^ 63 ⌝ }
+    ensures { λ r. ⌜ r ≡ enteredAlone n me heads s p q last ⌝ }
 {
-    if !is_site(t.count, a.site) {
-        return refuse(3, t);
+    heads[clamp(kit::index(p), 15)] = head_of(q);
+    s.last = last;
+    let r = settle(take_up(n, me, heads, s, p, q), p, q);
+    let site = r.site;
+    let due = r.due;
+    Entry {
+        answer: Answer {
+            number: 0,
+            first: q.stamp as i64,
+            second: kit::wide(p),
+            accepted: r.accepted,
+            rejected: r.rejected,
+        },
+        request: q,
+        site,
+        due,
     }
-    let k = kit::index(a.site) - 1;
-    if !t.sites[k].up {
-        return refuse(4, t);
+}
+
+// Step 1 at the site s. The lowest free request place is p, and q stands there.
+pub(crate) fn begin(n: u8, heads: [Head; 16], s: Site, p: u8, q: Request, a: Step) -> Entry
+    ensures { λ r. ⌜ r ≡ beginPlan n heads s p q a ⌝ }
+{
+    if !is_site(n, a.site) {
+        return leave_out(3, q, s);
+    }
+    if !s.up {
+        return leave_out(4, q, s);
     }
     if !are_sets_allowed(a.base, a.update) {
-        return refuse(5, t);
+        return leave_out(5, q, s);
     }
     let based = a.stamps;
-    if !are_base_stamps_allowed(t.count, a.base, based) {
-        return refuse(6, t);
+    if !are_base_stamps_allowed(n, a.base, based) {
+        return leave_out(6, q, s);
     }
     let values = a.values;
     if !are_values_allowed(a.update, values) {
-        return refuse(7, t);
+        return leave_out(7, q, s);
     }
-    let issue = stamps::issue_stamp(a.site, a.clock, t.sites[k].last, a.base, &based);
+    let issue = stamps::issue_stamp(a.site, a.clock, s.last, a.base, &based);
     match issue {
-        Issue::Past => refuse(8, t),
+        Issue::Past => leave_out(8, q, s),
         Issue::Given(stamp, last) => {
-            let rs = t.requests;
-            let p = free_place(rs);
-            if 15 < p {
-                return refuse(9, t);
+            if p == 16 {
+                return leave_out(9, q, s);
             }
-            enter(t, a, k, p, stamp, last)
+            enter(n, a.site - 1, heads, s, p, stored_request(a, stamp), last)
         }
     }
 }

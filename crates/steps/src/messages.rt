@@ -1,33 +1,31 @@
 // Steps 2, 3 and 4: tell, deliver and drop.
 ghost use mathlib.Core.Path.{_≡_};
-ghost use Prim.Native.Nat.{_≤_, _<_};
 ghost use mathlib.Core.Bool.{not, _||_, cond};
-ghost use Rattle.table.specs.Fresh.{blankMessage};
-ghost use Rattle.table.specs.Places.{withMessage};
-ghost use Rattle.vote.specs.Data.{isOk, isOther, isOpen};
+ghost use lib.Dec.{ltb};
+ghost use Rattle.vote.specs.Data.{isOk, isOther, isOpen, blankRequest};
 ghost use Rattle.vote.specs.Voters.{votersOf, noRow};
-ghost use Rattle.steps.specs.Numbers.{tellNumber, deliverNumber, dropNumber};
-ghost use Rattle.steps.specs.Steps.{messageFrom, told, delivered, dropped, unlessRefused};
+ghost use Rattle.steps.specs.Pieces.{postedAs, tellPlan, dropPlan, keptAs, deliverPlan};
+ghost use Rattle.steps.specs.Steps.{messageFrom};
 use crate::answer::Answer;
-use crate::answer::Stepped;
+use crate::answer::give;
 use crate::answer::refuse;
-use crate::places::free_message;
-use crate::places::place_with;
-use crate::sites::done;
+use crate::hearing::receive;
+use crate::hearing::settle;
 use crate::sites::is_site;
-use record::Step;
 use table::data::Message;
-use table::data::Table;
 use table::fresh::blank_message;
 use vote::consider::is_ok;
 use vote::consider::is_open;
 use vote::consider::is_other;
+use vote::data::Head;
+use vote::data::Request;
 use vote::data::Site;
+use vote::data::Verdict;
 use vote::data::Vote;
+use vote::requests::blank_request;
 use vote::voters::no_voters;
 use vote::voters::voters_of;
 use vote::voting::vote_at;
-use walk::hearing::receive;
 
 // What a site tells of voters at place p: those that it knows while it holds the request open, else none.
 fn voters_told(held_open: bool, known: [bool; 112], p: u8) -> [bool; 7]
@@ -77,102 +75,134 @@ fn has_word(v: Vote) -> bool
     !is_open(d)
 }
 
-pub(crate) fn tell(mut t: Table, a: Step) -> Stepped
-    requires { ⌜ t .count ≤ 7 ⌝ }
-    ensures { λ r. ⌜ r ≡ unlessRefused (tellNumber t a) (told t a) t ⌝ }
-{
-    if !is_site(t.count, a.site) {
-        return refuse(3, t);
-    }
-    if !is_site(t.count, a.to) {
-        return refuse(3, t);
-    }
-    let k = kit::index(a.site) - 1;
-    if !t.sites[k].up {
-        return refuse(4, t);
-    }
-    if a.stamp == 0 {
-        return refuse(10, t);
-    }
-    let rs = t.requests;
-    let p = place_with(rs, a.stamp);
-    if 15 < p {
-        return refuse(10, t);
-    }
-    let s = t.sites[k];
-    if !has_word(s.votes[p]) {
-        return refuse(11, t);
-    }
-    if a.site == a.to {
-        return refuse(11, t);
-    }
-    let messages = t.messages;
-    let j = free_message(messages);
-    if 63 < j {
-        return refuse(12, t);
-    }
-    let m = message_from(s, p as u8, a.site - 1, a.to - 1);
-    t.messages[j] = m;
-    done(j as i64, 0, t)
+// The answer, and what stands at the message place now.
+pub struct Post {
+    pub answer: Answer,
+    pub message: Message,
 }
 
-pub(crate) fn deliver(mut t: Table, a: Step) -> Stepped
-    requires { ⌜ t .count ≤ 7 ⌝ }
-    ensures { λ r. ⌜ r ≡ unlessRefused (deliverNumber t a) (delivered t a) t ⌝ }
+// A message place that is left as it was.
+fn keep(number: u8, message: Message) -> Post
+    ensures { λ r. ⌜ r ≡ postedAs number message ⌝ }
 {
-    let j = kit::index(a.place);
+    Post {
+        answer: refuse(number),
+        message,
+    }
+}
+
+// Step 2: the site s, whose digit is `from`, tells `to` of the request at place p. The lowest free message place is j, and m stands there.
+pub(crate) fn tell(n: u8, from: u8, to: u8, s: Site, p: u8, j: u8, m: Message) -> Post
+    ensures { λ r. ⌜ r ≡ tellPlan n from to s p j m ⌝ }
+{
+    if !is_site(n, from) {
+        return keep(3, m);
+    }
+    if !is_site(n, to) {
+        return keep(3, m);
+    }
+    let teller = from - 1;
+    let receiver = to - 1;
+    if !s.up {
+        return keep(4, m);
+    }
+    if p == 16 {
+        return keep(10, m);
+    }
+    let votes = s.votes;
+    let v = vote_at(votes, p);
+    if !has_word(v) {
+        return keep(11, m);
+    }
+    if from == to {
+        return keep(11, m);
+    }
+    if j == 64 {
+        return keep(12, m);
+    }
+    Post {
+        answer: give(j as i64, 0),
+        message: message_from(s, p, teller, receiver),
+    }
+}
+
+// Step 4: the message m at message place j is lost.
+pub(crate) fn drop(j: u8, m: Message) -> Post
+    ensures { λ r. ⌜ r ≡ dropPlan j m ⌝ }
+{
     if 63 < j {
-        return refuse(13, t);
+        return keep(13, m);
     }
-    let m = t.messages[j];
     if !m.used {
-        return refuse(13, t);
+        return keep(13, m);
     }
-    let k = kit::index(m.to);
-    if 6 < k {
-        return refuse(4, t);
+    Post {
+        answer: give(0, 0),
+        message: blank_message(),
     }
-    if !t.sites[k].up {
-        return refuse(4, t);
+}
+
+// The answer, the site, and the verdict that is left to `resolve`: Open where none.
+pub struct Delivery {
+    pub answer: Answer,
+    pub site: Site,
+    pub due: Verdict,
+}
+
+// A site that is left as it was.
+fn stay(number: u8, site: Site) -> Delivery
+    ensures { λ r. ⌜ r ≡ keptAs number site ⌝ }
+{
+    Delivery {
+        answer: refuse(number),
+        site,
+        due: Verdict::Open,
     }
-    let rs = t.requests;
+}
+
+// The request q, where p is a request place; else none.
+fn request_there(p: u8, q: Request) -> Request
+    ensures { λ r. ⌜ r ≡ cond (ltb p 16) q blankRequest ⌝ }
+{
+    if 15 < p {
+        return blank_request();
+    }
+    q
+}
+
+// Step 3: the message m at message place j, which names the request q, comes to the site s.
+pub(crate) fn deliver(n: u8, j: u8, m: Message, heads: [Head; 16], s: Site, q: Request) -> Delivery
+    ensures { λ r. ⌜ r ≡ deliverPlan n j m heads s q ⌝ }
+{
+    if 63 < j {
+        return stay(13, s);
+    }
+    if !m.used {
+        return stay(13, s);
+    }
+    if 6 < m.to {
+        return stay(4, s);
+    }
+    if !s.up {
+        return stay(4, s);
+    }
+    let named = request_there(m.request, q);
     let sent = m.verdict;
     let oks = m.oks;
     let others = m.others;
-    let out = receive(rs, t.sites[k], t.count, m.to, m.request, sent, oks, others);
-    let site = out.site;
-    t.sites[k] = site;
-    Stepped {
+    let h = receive(n, m.to, heads, s, m.request, named, sent, oks, others);
+    let r = settle(h, m.request, named);
+    let site = r.site;
+    let due = r.due;
+    Delivery {
         answer: Answer {
             number: 0,
             first: 0,
             second: 0,
-            accepted: out.accepted,
-            rejected: out.rejected,
+            accepted: r.accepted,
+            rejected: r.rejected,
         },
-        table: t,
+        site,
+        due,
     }
-}
-
-// The table with message place j empty.
-fn empty_place(mut t: Table, j: usize) -> Table
-    requires { ⌜ j < 64 ⌝ }
-    ensures { λ r. ⌜ r ≡ withMessage j blankMessage t ⌝ }
-{
-    t.messages[j] = blank_message();
-    t
-}
-
-pub(crate) fn drop(t: Table, a: Step) -> Stepped
-    requires { ⌜ t .count ≤ 7 ⌝ }
-    ensures { λ r. ⌜ r ≡ unlessRefused (dropNumber t a) (dropped t a) t ⌝ }
-{
-    let j = kit::index(a.place);
-    if 63 < j {
-        return refuse(13, t);
-    }
-    if !t.messages[j].used {
-        return refuse(13, t);
-    }
-    done(0, 0, empty_place(t, j))
 }

@@ -49,7 +49,10 @@ fn answer_record(t: Table, r: Record) -> Stepped
 {
     let number = r.number;
     if number != 0 {
-        return refuse(number, t);
+        return Stepped {
+            answer: refuse(number),
+            table: t,
+        };
     }
     let a = r.step;
     advance(t, a)

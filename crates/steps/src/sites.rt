@@ -1,16 +1,12 @@
 // Steps 5, 6 and 8: down, up and read.
 ghost use mathlib.Core.Path.{_≡_};
-ghost use Prim.Native.Nat.{_≤_};
-ghost use mathlib.Core.Bool.{false, true, _&&_};
+ghost use mathlib.Core.Bool.{_&&_};
 ghost use lib.Dec.{leb};
-ghost use Rattle.steps.specs.Answers.{steppedAs};
-ghost use Rattle.steps.specs.Numbers.{downNumber, upNumber, readNumber};
-ghost use Rattle.steps.specs.Steps.{doneQuietly, putUp, readings, unlessRefused};
+ghost use Rattle.steps.specs.Pieces.{downPlan, upPlan, readPlan, leftAs};
 use crate::answer::Answer;
-use crate::answer::Stepped;
+use crate::answer::give;
 use crate::answer::refuse;
-use record::Step;
-use table::data::Table;
+use vote::data::Site;
 
 // Whether a digit is 1 to the site count.
 pub(crate) fn is_site(n: u8, digit: u8) -> bool
@@ -22,67 +18,67 @@ pub(crate) fn is_site(n: u8, digit: u8) -> bool
     digit <= n
 }
 
-// A step at which no site says anything.
-pub(crate) fn done(first: i64, second: u64, table: Table) -> Stepped
-    ensures { λ r. ⌜ r ≡ steppedAs (doneQuietly first second table) ⌝ }
+// The answer, and whether the site is up now.
+pub struct Turn {
+    pub answer: Answer,
+    pub up: bool,
+}
+
+// A site that is left up or down as it was.
+fn leave(number: u8, up: bool) -> Turn
+    ensures { λ r. ⌜ r ≡ leftAs number up ⌝ }
 {
-    Stepped {
-        answer: Answer {
-            number: 0,
-            first,
-            second,
-            accepted: 0,
-            rejected: 0,
-        },
-        table,
+    Turn {
+        answer: refuse(number),
+        up,
     }
 }
 
-pub(crate) fn down(mut t: Table, a: Step) -> Stepped
-    requires { ⌜ t .count ≤ 7 ⌝ }
-    ensures { λ r. ⌜ r ≡ unlessRefused (downNumber t a) (putUp false t a) t ⌝ }
+// Step 5 at the site with this digit.
+pub(crate) fn down(n: u8, digit: u8, up: bool) -> Turn
+    ensures { λ r. ⌜ r ≡ downPlan n digit up ⌝ }
 {
-    if !is_site(t.count, a.site) {
-        return refuse(3, t);
+    if !is_site(n, digit) {
+        return leave(3, up);
     }
-    let k = kit::index(a.site) - 1;
-    if !t.sites[k].up {
-        return refuse(4, t);
+    if !up {
+        return leave(4, up);
     }
-    t.sites[k].up = false;
-    done(0, 0, t)
+    Turn {
+        answer: give(0, 0),
+        up: false,
+    }
 }
 
-pub(crate) fn up(mut t: Table, a: Step) -> Stepped
-    requires { ⌜ t .count ≤ 7 ⌝ }
-    ensures { λ r. ⌜ r ≡ unlessRefused (upNumber t a) (putUp true t a) t ⌝ }
+// Step 6 at the site with this digit.
+pub(crate) fn up(n: u8, digit: u8, up: bool) -> Turn
+    ensures { λ r. ⌜ r ≡ upPlan n digit up ⌝ }
 {
-    if !is_site(t.count, a.site) {
-        return refuse(3, t);
+    if !is_site(n, digit) {
+        return leave(3, up);
     }
-    let k = kit::index(a.site) - 1;
-    if t.sites[k].up {
-        return refuse(15, t);
+    if up {
+        return leave(15, up);
     }
-    t.sites[k].up = true;
-    done(0, 0, t)
+    Turn {
+        answer: give(0, 0),
+        up: true,
+    }
 }
 
-pub(crate) fn read(t: Table, a: Step) -> Stepped
-    requires { ⌜ t .count ≤ 7 ⌝ }
-    ensures { λ r. ⌜ r ≡ unlessRefused (readNumber t a) (readings t a) t ⌝ }
+// Step 8: the reading of an item at the site s, which has this digit.
+pub(crate) fn read(n: u8, digit: u8, s: Site, item: u8) -> Answer
+    ensures { λ r. ⌜ r ≡ readPlan n digit s item ⌝ }
 {
-    if !is_site(t.count, a.site) {
-        return refuse(3, t);
+    if !is_site(n, digit) {
+        return refuse(3);
     }
-    let k = kit::index(a.site) - 1;
-    if !t.sites[k].up {
-        return refuse(4, t);
+    if !s.up {
+        return refuse(4);
     }
-    let i = kit::index(a.item);
+    let i = kit::index(item);
     if 23 < i {
-        return refuse(16, t);
+        return refuse(16);
     }
-    let s = t.sites[k];
-    done(s.values[i] as i64, s.stamps[i], t)
+    give(s.values[i] as i64, s.stamps[i])
 }

@@ -23,7 +23,7 @@ pub struct Settled {
 }
 
 // How many acceptances a verdict is, and how many rejections.
-fn one_if_accepted(v: Verdict) -> u32
+pub fn one_if_accepted(v: Verdict) -> u32
     ensures { λ r. ⌜ r ≡ acceptsOf v ⌝ }
 {
     match v {
@@ -33,7 +33,7 @@ fn one_if_accepted(v: Verdict) -> u32
     }
 }
 
-fn one_if_rejected(v: Verdict) -> u32
+pub fn one_if_rejected(v: Verdict) -> u32
     ensures { λ r. ⌜ r ≡ rejectsOf v ⌝ }
 {
     match v {

@@ -1,5 +1,5 @@
 -- `steps::begin::enter` meets its contract.
-use Rattle.steps.proofs.Beginning.{stamp-fits, enter-is}
+use Rattle.steps.proofs.Beginning.{enter-is}
 use borrow.Author.Needs.{needs}
 use Rattle.steps.proofs.begin.enter.Statement.{statement}
 use Rattle.steps.proofs.begin.enter.Tie as tie
@@ -9,16 +9,12 @@ enter-spec =
     tie.close
     (tie.spec
     (λ c κs. search needs)
-    (λ c. search needs)
-    (λ c. search needs)
-    (λ c. search needs)
-    (λ c. search needs)
-    (λ c. search needs)
-    (λ c. search needs)
-    (λ c. search needs)
-    (λ c. search needs)
+    (λ c κs. search needs)
     (λ c κs. search needs)
     (λ c. search needs)
     (λ c. search needs)
-    (λ c. search stamp-fits)
+    (λ c κs. search needs)
+    (λ c κs. search needs)
+    (λ c. search needs)
+    (λ c κs. search needs)
     (λ c. search enter-is))

@@ -9,10 +9,7 @@ drop-spec =
     tie.close
     (tie.spec
     (λ c κs. search needs)
-    (λ c κs. search needs)
     (λ c. search drop-out)
-    (λ c. search needs)
-    (λ c. search needs)
     (λ c κs. search needs)
     (λ c. search drop-unused)
     (λ c κs. search needs)

@@ -1,18 +1,19 @@
 -- `steps::places::free_place` meets its contract: a loop that returns the first place.
 use Prim.Native.Nat.{_-_}
 use Rattle.kit.proofs.Loops.{Missed, firsts}
-use Rattle.vote.specs.Data.{requestAt}
+use Rattle.steps.proofs.Found.{free-is}
+use Rattle.vote.specs.Data.{headAt}
+use borrow.Author.Needs.{needs}
 use lib.Dec.{eqb}
 use mathlib.Core.Bool.{not}
-use borrow.Author.Needs.{needs}
 use Rattle.steps.proofs.places.free_place.Statement.{statement}
 use Rattle.steps.proofs.places.free_place.Tie as tie
 
 abbrev Inv-loop : tie.InvT-loop
-Inv-loop rs p₀ p = Missed 16 (λ k. not (not (eqb (requestAt rs k .stamp) 0))) p
+Inv-loop heads p₀ p = Missed 16 (λ k. not (not (eqb (headAt heads k .stamp) 0))) p
 
 abbrev μ-loop : tie.MeasureT-loop
-μ-loop rs p₀ p = 16 - p
+μ-loop heads p₀ p = 16 - p
 
 pub free-place-spec : {M : Type 1} → statement M
 free-place-spec =
@@ -25,7 +26,8 @@ free-place-spec =
     (λ c. search firsts)
     (λ c κs. search needs)
     (λ c. search firsts)
+    (λ c. search (free-is, firsts))
     (λ c. search firsts)
     (λ c. search firsts)
     (λ c. search firsts)
-    (λ c. search firsts))
+    (λ c. search (free-is, firsts)))

@@ -4,4 +4,7 @@ use Rattle.steps.proofs.places.is_free.Statement.{statement}
 use Rattle.steps.proofs.places.is_free.Tie as tie
 
 pub is-free-spec : {M : Type 1} → statement M
-is-free-spec = tie.close (tie.spec (λ c. not-not _))
+is-free-spec =
+    tie.close
+    (tie.spec
+    (λ c. not-not _))

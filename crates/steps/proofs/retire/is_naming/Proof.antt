@@ -1,6 +1,5 @@
 -- `steps::retire::is_naming` meets its contract.
 use Rattle.steps.proofs.Retiring.{named-unused, named-used}
-use borrow.Author.Needs.{needs}
 use Rattle.steps.proofs.retire.is_naming.Statement.{statement}
 use Rattle.steps.proofs.retire.is_naming.Tie as tie
 
@@ -9,5 +8,4 @@ is-naming-spec =
     tie.close
     (tie.spec
     (λ c. search named-unused)
-    (λ c κs. search needs)
     (λ c. search named-used))

@@ -10,7 +10,6 @@ is-open-at-spec =
     (tie.spec
     (λ c κs. search needs)
     (λ c. search open-beyond)
-    (λ c. search needs)
-    (λ c. search needs)
+    (λ c κs. search needs)
     (λ c κs. search needs)
     (λ c. search open-within))

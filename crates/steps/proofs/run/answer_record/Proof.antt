@@ -1,5 +1,6 @@
 -- `steps::run::answer_record` meets its contract: refused, or the step.
 use borrow.Author.Needs.{needs}
+use mathlib.Core.Path.{refl}
 use borrow.Author.Tests.{ne-eqb, eq-eqb}
 use Rattle.steps.specs.Night.{answeredOn}
 use Rattle.steps.proofs.run.answer_record.Statement.{statement}
@@ -7,7 +8,7 @@ use Rattle.steps.proofs.run.answer_record.Tie as tie
 
 returns : tie.Need-returns
 unfolding answeredOn
-returns c = rw (ne-eqb _ _ (c .before .if1 .taken)) (c .refuse .ensures)
+returns c = rw (ne-eqb _ _ (c .before .if1 .taken), c .refuse .ensures) refl
 
 returns-2 : tie.Need-returns-2
 unfolding answeredOn

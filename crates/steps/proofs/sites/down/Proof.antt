@@ -1,6 +1,5 @@
 -- `steps::sites::down` meets its contract: a law for each way through it.
 use Rattle.steps.proofs.AtSites.{down-3, down-4, down-0}
-use Rattle.steps.proofs.Digits.{digit-low, digit-high}
 use borrow.Author.Needs.{needs}
 use Rattle.steps.proofs.sites.down.Statement.{statement}
 use Rattle.steps.proofs.sites.down.Tie as tie
@@ -13,12 +12,6 @@ down-spec =
     (λ c κs. search needs)
     (λ c. search down-3)
     (λ c κs. search needs)
-    (λ c. search digit-low)
-    (λ c. search needs)
-    (λ c. search digit-high)
-    (λ c κs. search needs)
     (λ c. search down-4)
-    (λ c. search needs)
-    (λ c. search digit-high)
     (λ c κs. search needs)
     (λ c. search down-0))

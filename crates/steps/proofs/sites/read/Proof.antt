@@ -1,7 +1,8 @@
 -- `steps::sites::read` meets its contract: a law for each way through it.
 use Rattle.steps.proofs.AtSites.{read-3, read-4, read-16, read-0}
-use Rattle.steps.proofs.Digits.{digit-low, digit-high, widens}
+use Rattle.steps.proofs.Digits.{widens}
 use borrow.Author.Needs.{needs, sfits-of}
+use borrow.Author.Needs.{needs}
 use Rattle.steps.proofs.sites.read.Statement.{statement}
 use Rattle.steps.proofs.sites.read.Tie as tie
 
@@ -13,16 +14,10 @@ read-spec =
     (λ c κs. search needs)
     (λ c. search read-3)
     (λ c κs. search needs)
-    (λ c. search digit-low)
-    (λ c. search needs)
-    (λ c. search digit-high)
-    (λ c κs. search needs)
     (λ c. search read-4)
     (λ c κs. search needs)
     (λ c κs. search needs)
     (λ c. search read-16)
-    (λ c. search needs)
-    (λ c. search digit-high)
     (λ c. search needs)
     (λ c. search needs)
     (λ c. search (widens, sfits-of))

@@ -1,6 +1,5 @@
 -- `steps::sites::up` meets its contract: a law for each way through it.
 use Rattle.steps.proofs.AtSites.{up-3, up-15, up-0}
-use Rattle.steps.proofs.Digits.{digit-low, digit-high}
 use borrow.Author.Needs.{needs}
 use Rattle.steps.proofs.sites.up.Statement.{statement}
 use Rattle.steps.proofs.sites.up.Tie as tie
@@ -13,12 +12,6 @@ up-spec =
     (λ c κs. search needs)
     (λ c. search up-3)
     (λ c κs. search needs)
-    (λ c. search digit-low)
-    (λ c. search needs)
-    (λ c. search digit-high)
-    (λ c κs. search needs)
     (λ c. search up-15)
-    (λ c. search needs)
-    (λ c. search digit-high)
     (λ c κs. search needs)
     (λ c. search up-0))

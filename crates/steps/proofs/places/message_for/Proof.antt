@@ -1,0 +1,13 @@
+-- `steps::places::message_for` meets its contract.
+use Rattle.steps.proofs.Found.{message-tell, message-given}
+use borrow.Author.Needs.{needs}
+use Rattle.steps.proofs.places.message_for.Statement.{statement}
+use Rattle.steps.proofs.places.message_for.Tie as tie
+
+pub message-for-spec : {M : Type 1} → statement M
+message-for-spec =
+    tie.close
+    (tie.spec
+    (λ c κs. search needs)
+    (λ c. search message-tell)
+    (λ c. search message-given))
