@@ -1,4 +1,4 @@
--- `table::requests::are_values_allowed` meets its contract: a loop that returns at the first that fails computes `all`.
+-- `table::requests::are_valued_right` meets its contract: a loop that returns at the first that fails computes `all`.
 use Prim.Native.Nat.{_-_}
 use borrow.Author.Needs.{needs}
 use lib.IntN.{pos}
@@ -9,8 +9,8 @@ use Rattle.readings.specs.Readings.{inRange}
 use Rattle.sets.specs.Sets.{member}
 use Rattle.table.specs.Sound.{valuesAllowed}
 use Rattle.table.proofs.Chains.{implies-range, sized}
-use Rattle.table.proofs.requests.are_values_allowed.Statement.{statement}
-use Rattle.table.proofs.requests.are_values_allowed.Tie as tie
+use Rattle.table.proofs.requests.are_valued_right.Statement.{statement}
+use Rattle.table.proofs.requests.are_valued_right.Tie as tie
 
 abbrev Inv-loop : tie.InvT-loop
 Inv-loop update values i₀ i = Held 24 (λ k. implies (member update k) (inRange (getD values k (pos 0)))) i
@@ -18,9 +18,9 @@ Inv-loop update values i₀ i = Held 24 (λ k. implies (member update k) (inRang
 abbrev μ-loop : tie.MeasureT-loop
 μ-loop update values i₀ i = 24 - i
 
-pub are-values-allowed-spec : {M : Type 1} → statement M
+pub are-valued-right-spec : {M : Type 1} → statement M
 unfolding valuesAllowed
-are-values-allowed-spec =
+are-valued-right-spec =
     tie.close
     (tie.spec
     Inv-loop
