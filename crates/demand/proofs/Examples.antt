@@ -39,13 +39,13 @@ use Rattle.steps.proofs.Upkeep.{Well, advanced-well}
 -- ---- a night on a sound table, without its test
 
 -- one step more, where the table is sound
-abbrev surely : Standing → Step → Standing
+abbrev pub surely : Standing → Step → Standing
 surely x a = record {
   table = advanced (x .table) a .table;
   history = cond (eqb (a .code) 1) (inBegin (x .table) a) (cond (eqb (a .code) 3) (inDeliver (x .table) a) []) ++ x .history;
 }
 
-unfoldable sureAll : Standing → List Step → Standing
+unfoldable pub sureAll : Standing → List Step → Standing
 sureAll x [] = x
 sureAll x (a ∷ rest) = sureAll (surely x a) rest
 
@@ -59,7 +59,7 @@ all-sure x [] w = refl
 all-sure x (a ∷ rest) w = ap (λ (y : Standing). afterAll y rest) (is-sure x a w) ∙ all-sure (surely x a) rest (advanced-well (x .table) a w)
 
 -- so a night is computed without testing soundness at each step
-sure : (n : ℕ) → 1 ≤ n → n ≤ 7 → (steps : List Step) → nightOf n steps ≡ sureAll (evening n) steps
+pub sure : (n : ℕ) → 1 ≤ n → n ≤ 7 → (steps : List Step) → nightOf n steps ≡ sureAll (evening n) steps
 unfolding freshFor
 sure n low high steps = all-sure (evening n) steps (rw (le-leb 1 n low, le-leb n 7 high) (record { sound = fresh-means n low high; shaped = fresh-shaped n }))
 

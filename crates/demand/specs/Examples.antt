@@ -43,7 +43,7 @@ Small (a ∷ rest) = (a .update < 2 ^ 32) × Small rest
 -- ---- steps on item 0
 
 -- site begins a request that found item 0 with this stamp and gives it this value
-abbrev begins : ℕ → ℕ → ℕ → ℤ → Step
+abbrev pub begins : ℕ → ℕ → ℕ → ℤ → Step
 begins site clock based value = record {
   code = 1;
   site = site;
@@ -59,7 +59,7 @@ begins site clock based value = record {
 }
 
 -- site `from` tells site `to` of the request with this stamp
-abbrev tells : ℕ → ℕ → ℕ → Step
+abbrev pub tells : ℕ → ℕ → ℕ → Step
 tells from stamp to = record {
   code = 2;
   site = from;
@@ -75,7 +75,7 @@ tells from stamp to = record {
 }
 
 -- the message at this place is delivered
-abbrev delivers : ℕ → Step
+abbrev pub delivers : ℕ → Step
 delivers place = record {
   code = 3;
   site = 0;
@@ -135,7 +135,7 @@ early = first ++ (begins 1 1001 8001 (pos 8) ∷ tells 1 8009 3 ∷ delivers 3 �
 abbrev pub caughtUp : List Step
 caughtUp = early ++ (delivers 1 ∷ [])
 
--- case 9: sites 1 and 2 accept A too, and site 3 takes it over; only then is the first word of U delivered at site 3
+-- as in case 9: sites 1 and 2 accept A too, and site 3 takes it over; only then is the first word of U delivered at site 3
 abbrev pub late : List Step
 late = first ++ (begins 1 1001 8001 (pos 8) ∷ tells 1 8009 2 ∷ delivers 3 ∷ tells 2 8009 3 ∷ delivers 4 ∷ delivers 1 ∷ [])
 
@@ -185,7 +185,7 @@ pub record Shown : Type 0 where
       : nightOf 3 caughtUp .history
       ≡ (ruled 2 a verdict.Accepted ∷ voted 2 a mark.Ok ∷ ruled 2 u verdict.Accepted ∷ voted 2 u mark.Ok ∷ voted 0 a mark.Ok ∷ began a
       ∷ ruled 0 u verdict.Accepted ∷ ruled 1 u verdict.Accepted ∷ voted 1 u mark.Ok ∷ voted 0 u mark.Ok ∷ began u ∷ [])
-  -- case 9: the late site votes REJ on what the others accepted, and that rejects nothing
+  -- as in case 9: the late site votes REJ on what the others accepted, and that rejects nothing
   pub late-says
       : nightOf 3 late .history
       ≡ (voted 2 u mark.Rej ∷ ruled 2 a verdict.Accepted ∷ ruled 1 a verdict.Accepted ∷ voted 1 a mark.Ok ∷ voted 0 a mark.Ok ∷ began a

@@ -1,3 +1,2 @@
 -- What the layers above cite of the majority.
 pub mod Majorities
-pub mod Cases

@@ -1,3 +1,2 @@
 -- The laws of readings.
 pub mod Orders
-pub mod Cases

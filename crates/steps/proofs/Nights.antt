@@ -45,7 +45,7 @@ unfolding linesOf
 lines-whole t nth s e = rw (parted-whole s e) refl
 
 -- a fresh table that was not refused is sound
-fresh-well : (n : ℕ) → freshFor n .number ≡ 0 → Well (freshFor n .table)
+pub fresh-well : (n : ℕ) → freshFor n .number ≡ 0 → Well (freshFor n .table)
 unfolding freshFor
 fresh-well n e =
     record {

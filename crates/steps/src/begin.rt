@@ -14,6 +14,8 @@ use crate::hearing::settle;
 use crate::hearing::take_up;
 use crate::places::clamp;
 use crate::sites::is_site;
+use clock::Clock;
+use clock::issue_from;
 use record::Step;
 use stamps::Issue;
 use table::requests::are_base_stamps_allowed;
@@ -141,7 +143,12 @@ pub(crate) fn begin(n: u8, heads: [Head; 16], s: Site, p: u8, q: Request, a: Ste
     if !are_values_allowed(a.update, values) {
         return leave_out(7, q, s);
     }
-    let issue = stamps::issue_stamp(a.site, a.clock, s.last, a.base, &based);
+    let record = Clock {
+        site: a.site,
+        last: s.last,
+    };
+    let out = issue_from(record, a.clock, a.base, &based);
+    let issue = out.answer;
     match issue {
         Issue::Past => leave_out(8, q, s),
         Issue::Given(stamp, last) => {

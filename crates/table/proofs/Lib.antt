@@ -5,6 +5,7 @@ pub mod Places
 pub mod Nothing
 pub mod Queues
 pub mod Backing
+mod Marked
 pub mod Meaning
 pub mod Same
 pub mod FreshSound

@@ -1,8 +1,11 @@
 // The own marks of all sites, gathered place by place.
 ghost use mathlib.Core.Path.{_≡_};
-ghost use Prim.Native.Nat.{_-_};
+ghost use mathlib.Core.List.{[]};
+ghost use Prim.Native.Nat.{_-_, _/_, _%_};
 ghost use Rattle.stamps.specs.Stamps.{digitOf};
-ghost use Rattle.vote.specs.Data.{voteAt};
+ghost use lib.ListN.{getD};
+ghost use Rattle.kit.specs.Lists.{listed};
+ghost use Rattle.vote.specs.Data.{isOk, isOther, voteAt};
 ghost use Rattle.table.specs.Parts.{lastsOf, timeRight, ballotsOf, marksAt, marksOf};
 use vote::consider::is_ok;
 use vote::consider::is_other;
@@ -11,7 +14,9 @@ use vote::data::Site;
 use vote::data::Verdict;
 use vote::data::Vote;
 use vote::voters::no_voters;
+use vote::voters::place_at;
 use vote::voters::put_voter;
+use vote::voters::voter_at;
 use vote::voting::vote_at;
 
 // The last t of each site.
@@ -36,12 +41,26 @@ fn site_of(stamp: u64) -> usize
     digit - 1
 }
 
+// A t as wide as a stamp.
+fn wide_time(t: u32) -> u64
+    ensures { λ r. ⌜ r ≡ t ⌝ }
+{
+    t as u64
+}
+
 // Whether the t of a stamp is at most its site's last.
+pub(crate) fn is_in_time(lasts: &[u32; 7], stamp: u64) -> bool
+    ensures { λ r. ⌜ r ≡ timeRight (now (lasts .entry)) stamp ⌝ }
+{
+    let k = site_of(stamp);
+    stamps::time_of(stamp) <= wide_time(lasts[k])
+}
+
+// The same, the last t's by value.
 pub fn is_time_right(lasts: [u32; 7], stamp: u64) -> bool
     ensures { λ r. ⌜ r ≡ timeRight lasts stamp ⌝ }
 {
-    let k = site_of(stamp);
-    stamps::time_of(stamp) <= (lasts[k] as u64)
+    is_in_time(&lasts, stamp)
 }
 
 // What one site has said of each of the 16 places.
@@ -108,4 +127,24 @@ pub fn marks_of(ballots: [Ballot; 7]) -> [Marks; 16]
         marks[p] = m;
     }
     marks
+}
+
+// The own marks of all places, kept as a site keeps the voters that it knows.
+pub struct Marked {
+    pub oks: [bool; 112],
+    pub others: [bool; 112],
+}
+
+pub(crate) fn marked_of(ballots: [Ballot; 7]) -> Marked
+    ensures oks { λ r. ⌜ r .oks ≡ listed 112 (λ i. isOk (voteAt (getD ballots (i % 7) (record { votes = [] }) .votes) (i / 7) .mark)) ⌝ }
+    ensures others { λ r. ⌜ r .others ≡ listed 112 (λ i. isOther (voteAt (getD ballots (i % 7) (record { votes = [] }) .votes) (i / 7) .mark)) ⌝ }
+{
+    let mut oks = [false; 112];
+    let mut others = [false; 112];
+    for i in 0..112 {
+        let m = mark_in(ballots[voter_at(i)], place_at(i) as u8);
+        oks[i] = is_ok(m);
+        others[i] = is_other(m);
+    }
+    Marked { oks, others }
 }

@@ -1,23 +1,24 @@
 // Soundness part by part: one request, one site's copy and queue, what one site holds of one place, one message.
 ghost use mathlib.Core.Path.{_≡_};
-ghost use mathlib.Core.Bool.{not, _&&_, cond};
+ghost use mathlib.Core.Bool.{true, not, _&&_, cond};
 ghost use Prim.Native.Nat.{_<_, _≤_};
 ghost use lib.Dec.{eqb, leb, ltb};
 ghost use lib.ListN.{getD};
+ghost use Rattle.kit.specs.Lists.{listed};
 ghost use Rattle.kit.specs.Range.{all, implies, one, number};
+ghost use Rattle.majority.specs.Majority.{majority, blocking};
 ghost use Rattle.vote.specs.Data.{isDeferred, isOpen, isUnmarked, voteAt};
 ghost use Rattle.vote.specs.Queue.{queuedAt};
-ghost use Rattle.vote.specs.Voters.{areAmong, noVoters};
+ghost use Rattle.vote.specs.Voters.{areAmong, noVoters, votersOf};
 ghost use Rattle.table.specs.Blank.{blankVote, isBlankSite};
-ghost use Rattle.table.specs.Parts.{timeRight, stampNew, requestSound, readingRight, readingSound, queueEndBlank, backedBy, openRight, holdingSound, placeHeld, siteSound, messageSound};
+ghost use Rattle.table.specs.Parts.{timeRight, stampNew, requestSound, readingRight, readingSound, queueEndBlank, backedBy, openRight, holdingSound, siteSound, messageSound};
 ghost use Rattle.table.specs.Sound.{queueExact};
 use crate::blank::is_blank_message;
 use crate::blank::is_blank_request;
 use crate::blank::is_blank_site;
 use crate::blank::is_blank_vote;
 use crate::data::Message;
-use crate::marks::Marks;
-use crate::marks::is_time_right;
+use crate::marks::is_in_time;
 use crate::requests::is_request_allowed;
 use vote::consider::is_deferred;
 use vote::consider::is_ok;
@@ -28,16 +29,15 @@ use vote::data::Request;
 use vote::data::Site;
 use vote::data::Verdict;
 use vote::data::Vote;
-use vote::voters::are_among;
-use vote::voters::count_voters;
-use vote::voters::has_voter;
-use vote::voters::is_no_voter;
-use vote::voters::voters_of;
+use vote::voters::are_all_known;
+use vote::voters::are_known_among;
+use vote::voters::count_at;
+use vote::voters::is_known;
 
 // Whether no place before p has the stamp of place p.
-fn is_stamp_new(stamps: [u64; 16], p: usize) -> bool
+fn is_stamp_new(stamps: &[u64; 16], p: usize) -> bool
     requires { ⌜ p < 16 ⌝ }
-    ensures { λ r. ⌜ r ≡ stampNew stamps p ⌝ }
+    ensures { λ r. ⌜ r ≡ stampNew (now (stamps .entry)) p ⌝ }
 {
     for q in 0..p {
         if !is_different(stamps[q], stamps[p]) {
@@ -54,15 +54,15 @@ fn is_different(a: u64, b: u64) -> bool
 }
 
 // Whether the request at place p is sound.
-pub(crate) fn is_request_sound(
+pub(crate) fn is_request_sound<'a>(
     n: u8,
-    lasts: [u32; 7],
-    stamps: [u64; 16],
+    lasts: &'a [u32; 7],
+    stamps: &'a [u64; 16],
     q: Request,
     p: usize,
 ) -> bool
     requires { ⌜ p < 16 ⌝ }
-    ensures { λ r. ⌜ r ≡ requestSound n lasts stamps q p ⌝ }
+    ensures { λ r. ⌜ r ≡ requestSound n (now (lasts .entry)) (now (stamps .entry)) q p ⌝ }
 {
     if q.stamp == 0 {
         return is_blank_request(q);
@@ -73,7 +73,7 @@ pub(crate) fn is_request_sound(
     if !stamps::is_issued_form(n, q.stamp) {
         return false;
     }
-    if !is_time_right(lasts, q.stamp) {
+    if !is_in_time(lasts, q.stamp) {
         return false;
     }
     is_stamp_new(stamps, p)
@@ -96,18 +96,18 @@ fn is_reading_allowed(n: u8, stamp: u64, value: i32) -> bool
 }
 
 // Whether a site's reading of item i is sound.
-fn is_reading_sound(n: u8, lasts: [u32; 7], stamp: u64, value: i32) -> bool
-    ensures { λ r. ⌜ r ≡ (readingRight n stamp value && timeRight lasts stamp) ⌝ }
+fn is_reading_sound(n: u8, lasts: &[u32; 7], stamp: u64, value: i32) -> bool
+    ensures { λ r. ⌜ r ≡ (readingRight n stamp value && timeRight (now (lasts .entry)) stamp) ⌝ }
 {
     if !is_reading_allowed(n, stamp, value) {
         return false;
     }
-    is_time_right(lasts, stamp)
+    is_in_time(lasts, stamp)
 }
 
 // Whether a site's copy is sound.
-fn is_copy_sound(n: u8, lasts: [u32; 7], s: Site) -> bool
-    ensures { λ r. ⌜ r ≡ all 24 (readingSound n lasts s) ⌝ }
+fn is_copy_sound(n: u8, lasts: &[u32; 7], s: Site) -> bool
+    ensures { λ r. ⌜ r ≡ all 24 (readingSound n (now (lasts .entry)) s) ⌝ }
 {
     for i in 0..24 {
         if !is_reading_sound(n, lasts, s.stamps[i], s.values[i]) {
@@ -158,40 +158,35 @@ fn is_place(p: u8) -> bool
     p < 16
 }
 
-fn is_same(a: u8, b: usize) -> bool
-    ensures { λ r. ⌜ r ≡ eqb a b ⌝ }
-{
-    kit::index(a) == b
-}
-
-// How often place p stands among the first w of the queue; w is at most 16.
-fn times_queued(queue: [u8; 16], w: usize, p: usize) -> u32
+// How often each place stands among the first w of the queue; w is at most 16.
+fn times_queued(queue: [u8; 16], w: usize) -> [u8; 16]
     requires { ⌜ w ≤ 16 ⌝ }
-    ensures { λ r. ⌜ r ≡ number w (λ i. eqb (queuedAt queue i) p) ⌝ }
+    ensures { λ r. ⌜ r ≡ listed 16 (λ p. number w (λ i. eqb (queuedAt queue i) p)) ⌝ }
 {
-    let mut k: u32 = 0;
+    let mut times = [0u8; 16];
     for i in 0..w {
-        k = k + kit::one_if(is_same(queue[i], p));
+        let p = kit::index(queue[i]);
+        if p < 16 {
+            times[p] = times[p] + 1;
+        }
     }
-    k
+    times
 }
 
-// Whether place p stands in the queue once if it is deferred, and else not.
-fn is_queued_right(queue: [u8; 16], w: usize, v: Vote, p: usize) -> bool
-    requires { ⌜ w ≤ 16 ⌝ }
-    ensures { λ r. ⌜ r ≡ eqb (number w (λ i. eqb (queuedAt queue i) p)) (one (isDeferred (v .mark))) ⌝ }
+// Whether a place that stands in the queue so often does so once if it is deferred, and else not.
+fn is_queued_right(times: u8, v: Vote) -> bool
+    ensures { λ r. ⌜ r ≡ eqb times (one (isDeferred (v .mark))) ⌝ }
 {
     let m = v.mark;
-    times_queued(queue, w, p) == kit::one_if(is_deferred(m))
+    (times as u32) == kit::one_if(is_deferred(m))
 }
 
 // Whether each place stands in the queue once if it is deferred, and else not.
-fn are_queued_right(queue: [u8; 16], w: usize, votes: [Vote; 16]) -> bool
-    requires { ⌜ w ≤ 16 ⌝ }
-    ensures { λ r. ⌜ r ≡ all 16 (λ p. eqb (number w (λ i. eqb (queuedAt queue i) p)) (one (isDeferred (voteAt votes p .mark)))) ⌝ }
+fn are_queued_right(times: [u8; 16], votes: [Vote; 16]) -> bool
+    ensures { λ r. ⌜ r ≡ all 16 (λ p. eqb (getD times p 0) (one (isDeferred (voteAt votes p .mark)))) ⌝ }
 {
     for p in 0..16 {
-        if !is_queued_right(queue, w, votes[p], p) {
+        if !is_queued_right(times[p], votes[p]) {
             return false;
         }
     }
@@ -211,40 +206,45 @@ fn is_queue_exact(s: Site) -> bool
         return false;
     }
     let votes = s.votes;
-    are_queued_right(queue, w, votes)
+    are_queued_right(times_queued(queue, w), votes)
 }
 
-// Whether a verdict is backed by that many own marks.
-fn is_backed(n: u8, m: Marks, v: Verdict) -> bool
-    ensures { λ r. ⌜ r ≡ backedBy n m v ⌝ }
+// Whether a verdict on place p is backed by that many own marks. Here and below `agreed` has the sites that marked OK, `opposed` those that
+// marked DR or REJ, of all places, as a site keeps the voters that it knows.
+fn is_backed<'a>(
+    n: u8,
+    p: u8,
+    agreed: &'a [bool; 112],
+    opposed: &'a [bool; 112],
+    v: Verdict,
+) -> bool
+    ensures { λ r. ⌜ r ≡ backedBy n (record { oks = votersOf (now (agreed .entry)) p; others = votersOf (now (opposed .entry)) p }) v ⌝ }
 {
-    let oks = m.oks;
-    let others = m.others;
     match v {
         Verdict::Open => true,
-        Verdict::Accepted => majority::to_accept(n) <= count_voters(oks),
-        Verdict::Rejected => majority::to_reject(n) <= count_voters(others),
+        Verdict::Accepted => majority::to_accept(n) <= count_at(agreed, p),
+        Verdict::Rejected => majority::to_reject(n) <= count_at(opposed, p),
     }
 }
 
-// Whether neither row has a voter.
-fn is_nobody(oks: [bool; 7], others: [bool; 7]) -> bool
-    ensures { λ r. ⌜ r ≡ (noVoters oks && noVoters others) ⌝ }
+// Whether nobody is counted.
+fn is_nobody(oks: u8, others: u8) -> bool
+    ensures { λ r. ⌜ r ≡ (eqb oks 0 && eqb others 0) ⌝ }
 {
-    if !is_no_voter(oks) {
+    if oks != 0 {
         return false;
     }
-    is_no_voter(others)
+    others == 0
 }
 
 // Whether a site that holds a request open knows too few voters, and none where it has no mark.
-fn is_open_right(n: u8, unmarked: bool, oks: [bool; 7], others: [bool; 7]) -> bool
-    ensures { λ r. ⌜ r ≡ openRight n unmarked oks others ⌝ }
+fn is_open_right(n: u8, unmarked: bool, oks: u8, others: u8) -> bool
+    ensures { λ r. ⌜ r ≡ (not (leb (majority n) oks) && (not (leb (blocking n) others) && implies unmarked (eqb oks 0 && eqb others 0))) ⌝ }
 {
-    if majority::to_accept(n) <= count_voters(oks) {
+    if majority::to_accept(n) <= oks {
         return false;
     }
-    if majority::to_reject(n) <= count_voters(others) {
+    if majority::to_reject(n) <= others {
         return false;
     }
     if unmarked {
@@ -263,84 +263,115 @@ fn is_implied(a: bool, b: bool) -> bool
 }
 
 // Whether an open verdict stands beside few voters, and another beside a mark that is not deferred.
-fn is_standing_right(n: u8, v: Vote, oks: [bool; 7], others: [bool; 7]) -> bool
-    ensures { λ r. ⌜ r ≡ cond (isOpen (v .verdict)) (openRight n (isUnmarked (v .mark)) oks others) (not (isDeferred (v .mark))) ⌝ }
+fn is_standing_right<'a>(
+    n: u8,
+    v: Vote,
+    p: u8,
+    oks: &'a [bool; 112],
+    others: &'a [bool; 112],
+) -> bool
+    ensures { λ r. ⌜ r ≡ cond (isOpen (v .verdict)) (openRight n (isUnmarked (v .mark)) (votersOf (now (oks .entry)) p) (votersOf (now (others .entry)) p)) (not (isDeferred (v .mark))) ⌝ }
 {
     let mark = v.mark;
     let verdict = v.verdict;
     if is_open(verdict) {
-        return is_open_right(n, is_unmarked(mark), oks, others);
+        return is_open_right(n, is_unmarked(mark), count_at(oks, p), count_at(others, p));
     }
     !is_deferred(mark)
 }
 
-// Whether what site `me` holds of a request agrees with the own marks of all sites.
-fn is_holding_sound(n: u8, me: usize, m: Marks, v: Vote, oks: [bool; 7], others: [bool; 7]) -> bool
-    ensures { λ r. ⌜ r ≡ holdingSound n me m v oks others ⌝ }
+// Whether what site `me` holds of the request at place p agrees with the own marks of all sites. That the voters it knows have these marks is
+// asked before, of all places at once.
+fn is_holding_sound<'a, 'b>(
+    n: u8,
+    me: usize,
+    v: Vote,
+    p: u8,
+    agreed: &'a [bool; 112],
+    opposed: &'a [bool; 112],
+    oks: &'b [bool; 112],
+    others: &'b [bool; 112],
+) -> bool
+    requires { ⌜ areAmong (votersOf (now oks) p) (votersOf (now agreed) p) ≡ true ⌝ }
+    requires { ⌜ areAmong (votersOf (now others) p) (votersOf (now opposed) p) ≡ true ⌝ }
+    ensures { λ r. ⌜ r ≡ holdingSound n me (record { oks = votersOf (now (agreed .entry)) p; others = votersOf (now (opposed .entry)) p }) v (votersOf (now (oks .entry)) p) (votersOf (now (others .entry)) p) ⌝ }
 {
-    let marked_oks = m.oks;
-    if !are_among(oks, marked_oks) {
-        return false;
-    }
-    let marked_others = m.others;
-    if !are_among(others, marked_others) {
-        return false;
-    }
     let mark = v.mark;
-    if !is_implied(is_ok(mark), has_voter(oks, me)) {
+    if !is_implied(is_ok(mark), is_known(oks, p, me)) {
         return false;
     }
-    if !is_implied(is_other(mark), has_voter(others, me)) {
+    if !is_implied(is_other(mark), is_known(others, p, me)) {
         return false;
     }
     let verdict = v.verdict;
-    if !is_backed(n, m, verdict) {
+    if !is_backed(n, p, agreed, opposed, verdict) {
         return false;
     }
-    is_standing_right(n, v, oks, others)
+    is_standing_right(n, v, p, oks, others)
 }
 
-// Whether a site holds nothing of a place.
-fn is_nothing_held(v: Vote, oks: [bool; 7], others: [bool; 7]) -> bool
-    ensures { λ r. ⌜ r ≡ (blankVote v && (noVoters oks && noVoters others)) ⌝ }
+// Whether a site holds nothing of place p.
+fn is_nothing_held<'a>(v: Vote, p: u8, oks: &'a [bool; 112], others: &'a [bool; 112]) -> bool
+    ensures { λ r. ⌜ r ≡ (blankVote v && (noVoters (votersOf (now (oks .entry)) p) && noVoters (votersOf (now (others .entry)) p))) ⌝ }
 {
     if !is_blank_vote(v) {
         return false;
     }
-    is_nobody(oks, others)
+    is_nobody(count_at(oks, p), count_at(others, p))
 }
 
 // Whether what site `me` holds of place p is sound; `stamp` is the request's, 0 at a free place.
-fn is_place_held(
+fn is_place_held<'a, 'b>(
     n: u8,
     me: usize,
-    m: Marks,
     stamp: u64,
     v: Vote,
-    oks: [bool; 7],
-    others: [bool; 7],
+    p: u8,
+    agreed: &'a [bool; 112],
+    opposed: &'a [bool; 112],
+    oks: &'b [bool; 112],
+    others: &'b [bool; 112],
 ) -> bool
-    ensures { λ r. ⌜ r ≡ (holdingSound n me m v oks others && implies (eqb stamp 0) (blankVote v && (noVoters oks && noVoters others))) ⌝ }
+    requires { ⌜ areAmong (votersOf (now oks) p) (votersOf (now agreed) p) ≡ true ⌝ }
+    requires { ⌜ areAmong (votersOf (now others) p) (votersOf (now opposed) p) ≡ true ⌝ }
+    ensures { λ r. ⌜ r ≡ (holdingSound n me (record { oks = votersOf (now (agreed .entry)) p; others = votersOf (now (opposed .entry)) p }) v (votersOf (now (oks .entry)) p) (votersOf (now (others .entry)) p) && implies (eqb stamp 0) (blankVote v && (noVoters (votersOf (now (oks .entry)) p) && noVoters (votersOf (now (others .entry)) p)))) ⌝ }
 {
-    if !is_holding_sound(n, me, m, v, oks, others) {
+    if !is_holding_sound(n, me, v, p, agreed, opposed, oks, others) {
         return false;
     }
     if stamp == 0 {
-        return is_nothing_held(v, oks, others);
+        return is_nothing_held(v, p, oks, others);
     }
     true
 }
 
 // Whether what site `me` holds of each place is sound.
-fn are_places_held(n: u8, me: usize, marks: [Marks; 16], stamps: [u64; 16], s: Site) -> bool
-    ensures { λ r. ⌜ r ≡ all 16 (placeHeld n me marks stamps s) ⌝ }
+fn are_places_held<'a, 'b>(
+    n: u8,
+    me: usize,
+    agreed: &'a [bool; 112],
+    opposed: &'a [bool; 112],
+    stamps: &'a [u64; 16],
+    votes: [Vote; 16],
+    oks: &'b [bool; 112],
+    others: &'b [bool; 112],
+) -> bool
+    requires { ⌜ all 16 (λ p. areAmong (votersOf (now oks) p) (votersOf (now agreed) p)) ≡ true ⌝ }
+    requires { ⌜ all 16 (λ p. areAmong (votersOf (now others) p) (votersOf (now opposed) p)) ≡ true ⌝ }
+    ensures { λ r. ⌜ r ≡ all 16 (λ p. holdingSound n me (record { oks = votersOf (now (agreed .entry)) p; others = votersOf (now (opposed .entry)) p }) (voteAt votes p) (votersOf (now (oks .entry)) p) (votersOf (now (others .entry)) p) && implies (eqb (getD (now (stamps .entry)) p 0) 0) (blankVote (voteAt votes p) && (noVoters (votersOf (now (oks .entry)) p) && noVoters (votersOf (now (others .entry)) p)))) ⌝ }
 {
-    let known_oks = s.oks;
-    let known_others = s.others;
     for p in 0..16 {
-        let oks = voters_of(known_oks, p as u8);
-        let others = voters_of(known_others, p as u8);
-        if !is_place_held(n, me, marks[p], stamps[p], s.votes[p], oks, others) {
+        if !is_place_held(
+            n,
+            me,
+            stamps[p],
+            votes[p],
+            p as u8,
+            agreed,
+            opposed,
+            oks,
+            others,
+        ) {
             return false;
         }
     }
@@ -348,15 +379,16 @@ fn are_places_held(n: u8, me: usize, marks: [Marks; 16], stamps: [u64; 16], s: S
 }
 
 // Whether site number `me` is sound.
-pub(crate) fn is_site_sound(
+pub(crate) fn is_site_sound<'a>(
     n: u8,
-    lasts: [u32; 7],
-    marks: [Marks; 16],
-    stamps: [u64; 16],
+    lasts: &'a [u32; 7],
+    agreed: &'a [bool; 112],
+    opposed: &'a [bool; 112],
+    stamps: &'a [u64; 16],
     me: usize,
     s: Site,
 ) -> bool
-    ensures { λ r. ⌜ r ≡ siteSound n lasts marks stamps me s ⌝ }
+    ensures { λ r. ⌜ r ≡ siteSound n (now (lasts .entry)) (listed 16 (λ p. record { oks = votersOf (now (agreed .entry)) p; others = votersOf (now (opposed .entry)) p })) (now (stamps .entry)) me s ⌝ }
 {
     if !is_blank_beyond(n, me, s) {
         return false;
@@ -370,7 +402,16 @@ pub(crate) fn is_site_sound(
     if !is_queue_exact(s) {
         return false;
     }
-    are_places_held(n, me, marks, stamps, s)
+    let oks = s.oks;
+    if !are_known_among(&oks, agreed) {
+        return false;
+    }
+    let others = s.others;
+    if !are_known_among(&others, opposed) {
+        return false;
+    }
+    let votes = s.votes;
+    are_places_held(n, me, agreed, opposed, stamps, votes, &oks, &others)
 }
 
 // Whether a site that is not of the table is blank.
@@ -384,8 +425,8 @@ fn is_blank_beyond(n: u8, me: usize, s: Site) -> bool
 }
 
 // Whether place p is one of the 16 and holds a request.
-fn is_used_place(stamps: [u64; 16], p: u8) -> bool
-    ensures { λ r. ⌜ r ≡ (ltb p 16 && not (eqb (getD stamps p 0) 0)) ⌝ }
+fn is_used_place(stamps: &[u64; 16], p: u8) -> bool
+    ensures { λ r. ⌜ r ≡ (ltb p 16 && not (eqb (getD (now (stamps .entry)) p 0) 0)) ⌝ }
 {
     let at = kit::index(p);
     if 15 < at {
@@ -407,27 +448,37 @@ fn are_two_sites(n: u8, a: u8, b: u8) -> bool
     a != b
 }
 
-// Whether what a message carries agrees with the own marks of all sites.
-fn is_content_right(n: u8, marks: Marks, m: Message) -> bool
-    ensures { λ r. ⌜ r ≡ (areAmong (m .oks) (marks .oks) && (areAmong (m .others) (marks .others) && backedBy n marks (m .verdict))) ⌝ }
+// Whether what a message carries of place p agrees with the own marks of all sites.
+fn is_content_right<'a>(
+    n: u8,
+    p: u8,
+    agreed: &'a [bool; 112],
+    opposed: &'a [bool; 112],
+    m: Message,
+) -> bool
+    ensures { λ r. ⌜ r ≡ (areAmong (m .oks) (votersOf (now (agreed .entry)) p) && (areAmong (m .others) (votersOf (now (opposed .entry)) p) && backedBy n (record { oks = votersOf (now (agreed .entry)) p; others = votersOf (now (opposed .entry)) p }) (m .verdict))) ⌝ }
 {
     let sent_oks = m.oks;
-    let marked_oks = marks.oks;
-    if !are_among(sent_oks, marked_oks) {
+    if !are_all_known(sent_oks, agreed, p) {
         return false;
     }
     let sent_others = m.others;
-    let marked_others = marks.others;
-    if !are_among(sent_others, marked_others) {
+    if !are_all_known(sent_others, opposed, p) {
         return false;
     }
     let v = m.verdict;
-    is_backed(n, marks, v)
+    is_backed(n, p, agreed, opposed, v)
 }
 
 // Whether a message is sound.
-pub(crate) fn is_message_sound(n: u8, marks: [Marks; 16], stamps: [u64; 16], m: Message) -> bool
-    ensures { λ r. ⌜ r ≡ messageSound n marks stamps m ⌝ }
+pub(crate) fn is_message_sound<'a>(
+    n: u8,
+    agreed: &'a [bool; 112],
+    opposed: &'a [bool; 112],
+    stamps: &'a [u64; 16],
+    m: Message,
+) -> bool
+    ensures { λ r. ⌜ r ≡ messageSound n (listed 16 (λ p. record { oks = votersOf (now (agreed .entry)) p; others = votersOf (now (opposed .entry)) p })) (now (stamps .entry)) m ⌝ }
 {
     if !m.used {
         return is_blank_message(m);
@@ -438,6 +489,5 @@ pub(crate) fn is_message_sound(n: u8, marks: [Marks; 16], stamps: [u64; 16], m: 
     if !are_two_sites(n, m.from, m.to) {
         return false;
     }
-    let p = m.request as usize;
-    is_content_right(n, marks[p], m)
+    is_content_right(n, m.request, agreed, opposed, m)
 }

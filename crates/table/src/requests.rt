@@ -29,9 +29,9 @@ fn is_stamp_allowed(taken: bool, n: u8, stamp: u64) -> bool
     true
 }
 
-// Check 6: each base item's stamp is well formed.
-pub fn are_base_stamps_allowed(n: u8, base: u32, based: [u64; 24]) -> bool
-    ensures { λ r. ⌜ r ≡ baseStampsAllowed n base based ⌝ }
+// Whether each base item's stamp is well formed.
+fn are_based_right(n: u8, base: u32, based: &[u64; 24]) -> bool
+    ensures { λ r. ⌜ r ≡ baseStampsAllowed n base (now (based .entry)) ⌝ }
 {
     for i in 0..24 {
         if !is_stamp_allowed(sets::has(base, i), n, based[i]) {
@@ -39,6 +39,13 @@ pub fn are_base_stamps_allowed(n: u8, base: u32, based: [u64; 24]) -> bool
         }
     }
     true
+}
+
+// Check 6: each base item's stamp is well formed.
+pub fn are_base_stamps_allowed(n: u8, base: u32, based: [u64; 24]) -> bool
+    ensures { λ r. ⌜ r ≡ baseStampsAllowed n base based ⌝ }
+{
+    are_based_right(n, base, &based)
 }
 
 fn is_value_allowed(taken: bool, value: i32) -> bool
@@ -50,9 +57,9 @@ fn is_value_allowed(taken: bool, value: i32) -> bool
     true
 }
 
-// Check 7: each update item's value is in range.
-pub fn are_values_allowed(update: u32, values: [i32; 24]) -> bool
-    ensures { λ r. ⌜ r ≡ valuesAllowed update values ⌝ }
+// Whether each update item's value is in range.
+fn are_valued_right(update: u32, values: &[i32; 24]) -> bool
+    ensures { λ r. ⌜ r ≡ valuesAllowed update (now (values .entry)) ⌝ }
 {
     for i in 0..24 {
         if !is_value_allowed(sets::has(update, i), values[i]) {
@@ -62,6 +69,13 @@ pub fn are_values_allowed(update: u32, values: [i32; 24]) -> bool
     true
 }
 
+// Check 7: each update item's value is in range.
+pub fn are_values_allowed(update: u32, values: [i32; 24]) -> bool
+    ensures { λ r. ⌜ r ≡ valuesAllowed update values ⌝ }
+{
+    are_valued_right(update, &values)
+}
+
 // Whether a request passes checks 5, 6 and 7.
 pub fn is_request_allowed(n: u8, q: Request) -> bool
     ensures { λ r. ⌜ r ≡ requestAllowed n q ⌝ }
@@ -69,10 +83,8 @@ pub fn is_request_allowed(n: u8, q: Request) -> bool
     if !are_sets_allowed(q.base, q.update) {
         return false;
     }
-    let based = q.stamps;
-    if !are_base_stamps_allowed(n, q.base, based) {
+    if !are_based_right(n, q.base, &q.stamps) {
         return false;
     }
-    let values = q.values;
-    are_values_allowed(q.update, values)
+    are_valued_right(q.update, &q.values)
 }

@@ -1,34 +1,38 @@
 -- The voters that a site knows: what each function makes of them, and the laws by which all others see them.
-use mathlib.Core.Path.{_≡_, refl, sym, _∙_}
+use mathlib.Core.Path.{_≡_, refl, sym, ap, _∙_}
 use mathlib.Core.Bool.{Bool, true, false, not, _&&_, _||_, cond, and-false, or-false, or-true}
 use mathlib.Core.List.{List}
 use Prim.Native.Nat.{ℕ, zero, suc, _+_, _*_, _/_, _%_, _≤_, _<_}
 use native.Mathlib.Numerals.{add-one}
 use native.Mathlib.Omega.{arith}
-use borrow.Author.Tests.{lt-ltb, le-ltb, ltb-true, eq-eqb, ne-eqb}
+use borrow.Author.Tests.{lt-ltb, le-ltb, ltb-true, eq-eqb, ne-eqb, not-true}
 use lib.Dec.{eqb, ltb}
 use lib.ListN.{length, getD, set, replicate, length-set, getD-replicate, List·getD-eq-default}
 use lib.Seq.{ext-getD, getD-set-same, getD-set-other, set-getD, set-out}
 use Rattle.kit.specs.Lists.{listed}
-use Rattle.kit.specs.Range.{number, implies}
-use Rattle.kit.proofs.Bools.{and-left, and-right, implied, implying, by-eq, by-lt}
-use Rattle.kit.proofs.Listings.{Filled, filled-put, length-listed, listed-at}
-use Rattle.kit.proofs.Ranges.{all-at, all-of, number-le, number-same, number-grows, number-none}
-use Rattle.vote.specs.Voters.{knows, votersOf, onlyVoter, joinUpTo, joinVoters, hasVoter, votersKnown, noKnown, putVoter, areAmong, clearUpTo, clearVoters}
+use Rattle.kit.specs.Range.{any, all, one, number, implies}
+use Rattle.kit.proofs.Bools.{clash, and-left, and-right, implied, implying, same-test, by-eq, by-lt}
+use Rattle.kit.proofs.Listings.{Filled, filled-put, length-listed, listed-at, listed-same}
+use Rattle.kit.proofs.Ranges.{any-suc, any-at, none-of, all-at, all-of, number-le, number-same, number-grows, number-none}
+use Rattle.vote.specs.Voters.{knows, votersOf, onlyVoter, joinUpTo, joinVoters, hasVoter, votersFor, votersKnown, noKnown, putVoter, areAmong, clearUpTo, clearVoters}
 use Rattle.vote.proofs.Rows.{row-in, row-known, row-number, length-clearUpTo}
 
 -- ---- as the code asks and makes them; `at` is the place as an index
 
-unknown-place : (known : List Bool) {at p : ℕ} (u : ℕ) → at ≡ p → 15 < at → false ≡ knows known p u
+pub unknown-place : (known : List Bool) {at p : ℕ} (u : ℕ) → at ≡ p → 15 < at → false ≡ knows known p u
 unfolding knows
 unknown-place known {at} {p} u e h = rw (le-ltb p 16 (omega arith))
+
+pub unknown-voter : (known : List Bool) (p : ℕ) {u : ℕ} → 6 < u → false ≡ knows known p u
+unfolding knows
+unknown-voter known p {u} h = rw (le-ltb u 7 (omega arith), and-false)
 
 -- inside the 16 places and seven voters
 known-is : (known : List Bool) (p u : ℕ) → p < 16 → u < 7 → getD known (7 * p + u) false ≡ knows known p u
 unfolding knows
 known-is known p u h l = rw (lt-ltb p 16 h, lt-ltb u 7 l)
 
-known-at : (known : List Bool) {at p : ℕ} (u : ℕ) → at ≡ p → at ≤ 15 → u ≤ 6 → getD known (7 * at + u) false ≡ knows known p u
+pub known-at : (known : List Bool) {at p : ℕ} (u : ℕ) → at ≡ p → at ≤ 15 → u ≤ 6 → getD known (7 * at + u) false ≡ knows known p u
 known-at known {at} {p} u e h l = rw e (known-is known p u (omega arith) (omega arith))
 
 -- of no place, nobody
@@ -190,12 +194,26 @@ pub length-onlyVoter : (me : ℕ) → length (onlyVoter me) ≡ 7
 unfolding onlyVoter
 length-onlyVoter me = length-listed 7 (eqb me)
 
+-- one voter of a row beside those known of place p
+pub all-known-at
+    : {x y r : Bool} (row known : List Bool) (p u : ℕ) → r ≡ implies x y → x ≡ hasVoter row u → y ≡ knows known p u → u < 7
+    → r ≡ implies (hasVoter row u) (hasVoter (votersOf known p) u)
+all-known-at row known p u e f g h = rw (row-known known p u h, ← f, ← g) e
+
 -- ---- how many
 
 -- so many voters are known
 pub voters-number : (known : List Bool) (p : ℕ) → votersKnown known p ≡ number 7 (knows known p)
 unfolding votersKnown
 voters-number known p = row-number (votersOf known p) ∙ number-same (hasVoter (votersOf known p)) (knows known p) 7 (λ u h. row-known known p u h)
+
+-- as the code counts them, one or none more at a turn
+pub one-room : {d : ℕ} (b : Bool) → d ≡ one b → d ≤ 1
+one-room true e = omega arith
+one-room false e = omega arith
+
+pub known-counted : {k : ℕ} (known : List Bool) (p : ℕ) → k ≡ number 7 (knows known p) → k ≡ votersKnown known p
+known-counted known p e = e ∙ sym (voters-number known p)
 
 pub voters-few : (known : List Bool) (p : ℕ) → votersKnown known p ≤ 7
 voters-few known p = rw (voters-number known p) (number-le 7 (knows known p))
@@ -260,6 +278,63 @@ among-has a b u e h y = implied (hasVoter a u) (hasVoter b u) (all-at (λ v. imp
 pub among-of : (a b : List Bool) → ((u : ℕ) → u < 7 → hasVoter a u ≡ true → hasVoter b u ≡ true) → areAmong a b ≡ true
 unfolding areAmong
 among-of a b f = all-of 7 (λ v. implies (hasVoter a v) (hasVoter b v)) (λ u h. implying (hasVoter a u) (f u h))
+
+-- ---- the known of all places at once, as they stand in the list
+
+abbrev pub without : List Bool → List Bool → ℕ → Bool
+without a b i = getD a i false && not (getD b i false)
+
+pub strange-none : (f : ℕ → Bool) → false ≡ any 0 f
+unfolding any
+strange-none f = refl
+
+pub strange-more : {s r d : Bool} (f : ℕ → Bool) (i : ℕ) → d ≡ (s || r) → s ≡ any i f → r ≡ f i → d ≡ any (i + 1) f
+strange-more f i e g h = rw (add-one i, any-suc, ← g, ← h) e
+
+not-without : (x y : Bool) → (x ≡ true → y ≡ true) → (x && not y) ≡ false
+not-without true y h = rw (h refl)
+not-without false y h = refl
+
+has-both : (x y : Bool) → (x && not y) ≡ false → x ≡ true → y ≡ true
+has-both true true e t = refl
+has-both true false e t = clash refl e
+has-both false y e t = clash t refl
+
+module _ (a b : List Bool) where
+  none-strange : any 112 (without a b) ≡ false → all 16 (λ p. areAmong (votersOf a p) (votersOf b p)) ≡ true
+  none-strange e =
+      all-of 16 (λ p. areAmong (votersOf a p) (votersOf b p))
+      (λ p hp. among-of (votersOf a p) (votersOf b p)
+      (λ u hu h. row-known b p u hu ∙ sym (known-is b p u hp hu)
+      ∙ has-both _ _ (any-at (without a b) 112 (7 * p + u) e (omega arith)) (known-is a p u hp hu ∙ sym (row-known a p u hu) ∙ h)))
+
+  strange-none-of : all 16 (λ p. areAmong (votersOf a p) (votersOf b p)) ≡ true → any 112 (without a b) ≡ false
+  strange-none-of e =
+      none-of 112 (without a b)
+      (λ i l. let q : 7 * (i / 7) + i % 7 ≡ i = omega arith in
+      let hp : i / 7 < 16 = omega arith in
+      let hu : i % 7 < 7 = omega arith in
+      not-without _ _
+      (λ t. (rw q at (known-is b (i / 7) (i % 7) hp hu)) ∙ sym (row-known b (i / 7) (i % 7) hu)
+      ∙ among-has (votersOf a (i / 7)) (votersOf b (i / 7)) (i % 7) (all-at (λ p. areAmong (votersOf a p) (votersOf b p)) 16 (i / 7) e hp) hu
+      (row-known a (i / 7) (i % 7) hu ∙ sym (rw q at (known-is a (i / 7) (i % 7) hp hu)) ∙ t)))
+
+  pub strange-over : {s : Bool} (i : ℕ) → s ≡ any i (without a b) → i ≤ 112 → 112 ≤ i → not s ≡ all 16 (λ p. areAmong (votersOf a p) (votersOf b p))
+  strange-over {s} i e l h =
+      let j : i ≡ 112 = omega arith in
+      rw (e, j)
+      (same-test (not (any 112 (without a b))) (all 16 (λ p. areAmong (votersOf a p) (votersOf b p)))
+      (λ t. none-strange (not-true _ t)) (λ t. ap not (strange-none-of t)))
+
+-- a list made of a test of each place and voter knows whom the test passes
+pub listed-known : (f : ℕ → ℕ → Bool) (p : ℕ) → p < 16 → votersOf (listed 112 (λ i. f (i / 7) (i % 7))) p ≡ votersFor (f p)
+unfolding votersOf votersFor
+listed-known f p hp =
+    listed-same 7 (knows (listed 112 (λ i. f (i / 7) (i % 7))) p) (f p)
+    (λ u hu. let i : 7 * p + u < 112 = omega arith in
+    let d : (7 * p + u) / 7 ≡ p = omega arith in
+    let m : (7 * p + u) % 7 ≡ u = omega arith in
+    sym (known-is _ p u hp hu) ∙ listed-at 112 (7 * p + u) (λ j. f (j / 7) (j % 7)) false i ∙ rw (d, m))
 
 -- ---- forgetting
 

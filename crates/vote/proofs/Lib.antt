@@ -12,4 +12,3 @@ pub mod Said
 pub mod MarkKinds
 pub mod After
 pub mod Shapes
-pub mod Cases

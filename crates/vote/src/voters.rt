@@ -1,8 +1,9 @@
 // The voters that a site knows, of each request place: the only functions that see how they are kept.
 ghost use mathlib.Core.Path.{_≡_};
-ghost use mathlib.Core.Bool.{_||_};
-ghost use Rattle.kit.specs.Range.{implies};
-ghost use Rattle.vote.specs.Voters.{votersOf, onlyVoter, joinVoters, clearVoters, noKnown, noRow, hasVoter, putVoter, noVoters, noneKnown, areAmong, votersListed, votersIn, votersKnown};
+ghost use mathlib.Core.Bool.{not, _&&_, _||_};
+ghost use Prim.Native.Nat.{_/_, _%_};
+ghost use Rattle.kit.specs.Range.{all, implies};
+ghost use Rattle.vote.specs.Voters.{knows, votersOf, onlyVoter, joinVoters, clearVoters, noKnown, noRow, hasVoter, putVoter, noVoters, noneKnown, areAmong, votersListed, votersIn, votersKnown};
 
 // The known voters of place p, site by site.
 pub fn voters_of(known: [bool; 112], p: u8) -> [bool; 7]
@@ -178,4 +179,75 @@ pub fn count_known(known: [bool; 112], p: u8) -> u8
     ensures { λ r. ⌜ r ≡ votersKnown known p ⌝ }
 {
     count_voters(voters_of(known, p))
+}
+
+// Whether voter u of place p is known, with no row made of them.
+pub fn is_known(known: &[bool; 112], p: u8, u: usize) -> bool
+    ensures { λ r. ⌜ r ≡ knows (now (known .entry)) p u ⌝ }
+{
+    let at = kit::index(p);
+    if 15 < at {
+        return false;
+    }
+    if 6 < u {
+        return false;
+    }
+    known[7 * at + u]
+}
+
+// Whether each voter of the row is known of place p.
+pub fn are_all_known(row: [bool; 7], known: &[bool; 112], p: u8) -> bool
+    ensures { λ r. ⌜ r ≡ areAmong row (votersOf (now (known .entry)) p) ⌝ }
+{
+    for u in 0..7 {
+        if !is_implied(has_voter(row, u), is_known(known, p, u)) {
+            return false;
+        }
+    }
+    true
+}
+
+// The place and the voter that stand at i among the known ones.
+pub fn place_at(i: usize) -> usize
+    ensures { λ r. ⌜ r ≡ i / 7 ⌝ }
+{
+    i / 7
+}
+
+pub fn voter_at(i: usize) -> usize
+    ensures { λ r. ⌜ r ≡ i % 7 ⌝ }
+{
+    i % 7
+}
+
+// Whether a is without b.
+fn is_without(a: bool, b: bool) -> bool
+    ensures { λ r. ⌜ r ≡ (a && not b) ⌝ }
+{
+    if a {
+        return !b;
+    }
+    false
+}
+
+// Whether each voter known in a, of any place, is known in b. No turn leaves the loop, so that the tests can be made side by side.
+pub fn are_known_among<'a, 'b>(a: &'a [bool; 112], b: &'b [bool; 112]) -> bool
+    ensures { λ r. ⌜ r ≡ all 16 (λ p. areAmong (votersOf (now (a .entry)) p) (votersOf (now (b .entry)) p)) ⌝ }
+{
+    let mut strange = false;
+    for i in 0..112 {
+        strange = either(strange, is_without(a[i], b[i]));
+    }
+    !strange
+}
+
+// How many voters of place p are known, counted where they stand.
+pub fn count_at(known: &[bool; 112], p: u8) -> u8
+    ensures { λ r. ⌜ r ≡ votersKnown (now (known .entry)) p ⌝ }
+{
+    let mut count: u32 = 0;
+    for u in 0..7 {
+        count = count + kit::one_if(is_known(known, p, u));
+    }
+    count as u8
 }

@@ -8,7 +8,8 @@ use Rattle.steps.specs.Pieces.{issueAt, beginNumberOf}
 use borrow.Author.Needs.{needs}
 use lib.Dec.{eqb}
 use mathlib.Core.Bool.{cond}
-use mathlib.Core.Path.{_≡_, sym, _∙_}
+use mathlib.Core.Path.{_≡_, sym, ap, _∙_}
+use Rattle.clock.specs.declared.Issued.{Issued}
 use native.Mathlib.Omega.{arith}
 use Rattle.steps.proofs.begin.begin.Statement.{statement}
 use Rattle.steps.proofs.begin.begin.Tie as tie
@@ -25,16 +26,16 @@ rest
 rest c = begin-rest _ (start c .args .heads) _ _ (start c .args .q) _ (c .before .before .before .before .before .before .before .before .before .before .before .is-site .ensures) (c .before .before .before .before .before .before .before .before .before .before .if1 .left) (c .before .before .before .before .before .before .before .before .if2 .left) (c .before .before .before .before .before .before .before .are-sets-allowed .ensures) (c .before .before .before .before .before .before .if3 .left) (c .before .before .before .before .are-base-stamps-allowed .ensures) (c .before .before .before .if4 .left) (c .before .are-values-allowed .ensures) (c .if5 .left)
 
 -- what came of issuing
-abbrev asked : tie.After-issue-stamp → tie.Else5
+abbrev asked : tie.After-issue-from → tie.Else5
 asked c = c .before .before
 
 past : (c : tie.After-enum-told) → issueAt (start (asked (c .before .before)) .args .s) (start (asked (c .before .before)) .args .a) ≡ issue.Past
-past c = sym (c .before .before .issue-stamp .ensures) ∙ c .enum-told .given .1
+past c = sym (ap (λ (r : Issued). r .answer) (c .before .before .issue-from .ensures)) ∙ c .enum-told .given .1
 
 given
     : (c : tie.After-issue)
     → issueAt (start (asked (c .before .before)) .args .s) (start (asked (c .before .before)) .args .a) ≡ issue.Given (c .issue .given .0 .0) (c .issue .given .0 .1 .0)
-given c = sym (c .before .before .issue-stamp .ensures) ∙ c .issue .given .1
+given c = sym (ap (λ (r : Issued). r .answer) (c .before .before .issue-from .ensures)) ∙ c .issue .given .1
 
 small : (c : tie.Else5) → start c .args .a .site < 256
 small c = omega arith

@@ -9,9 +9,7 @@ is-open-right-spec =
     tie.close
     (tie.spec
     (λ c κs. search needs)
-    (λ c κs. search needs)
     (λ c. search counted)
-    (λ c κs. search needs)
     (λ c κs. search needs)
     (λ c. search counted)
     (λ c κs. search needs)

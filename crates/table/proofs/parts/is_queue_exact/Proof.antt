@@ -1,11 +1,16 @@
 -- `table::parts::is_queue_exact` meets its contract: one test after the other.
-use mathlib.Core.Path.{_≡_}
+use mathlib.Core.Path.{_≡_, _∙_}
 use mathlib.Core.Bool.{Bool, true, false, not}
+use mathlib.Core.List.{List}
 use Prim.Native.Nat.{ℕ, _<_, _≤_}
 use borrow.Author.Tests.{lt-leb, le-leb, not-true, not-false}
 use borrow.Author.Needs.{needs}
 use lib.Dec.{eqb, ltb}
+use lib.ListN.{getD}
+use Rattle.kit.specs.Lists.{listed}
 use Rattle.kit.specs.Range.{all, one, number}
+use Rattle.kit.proofs.Listings.{listed-at}
+use Rattle.kit.proofs.Ranges.{all-same}
 use Rattle.vote.specs.Data.{isDeferred, voteAt}
 use Rattle.vote.specs.Queue.{queuedAt}
 use Rattle.vote.specs.declared.data.Site.{Site}
@@ -24,10 +29,12 @@ module _ (s : Site) {w : ℕ} (e : w ≡ s .waiting) where
     no-place k = rw (← e, le-leb w 16 h, ← f, not-true r k)
 
     exact
-        : {g : Bool} → not r ≡ false → g ≡ all 16 (λ p. eqb (number w (λ i. eqb (queuedAt (s .queue) i) p)) (one (isDeferred (voteAt (s .votes) p .mark))))
-        → g ≡ queueExact s
+        : {g : Bool} {times : List ℕ} → not r ≡ false → times ≡ listed 16 (λ p. number w (λ i. eqb (queuedAt (s .queue) i) p))
+        → g ≡ all 16 (λ p. eqb (getD times p 0) (one (isDeferred (voteAt (s .votes) p .mark)))) → g ≡ queueExact s
     unfolding queueExact timesQueued
-    exact k l = rw (← e, le-leb w 16 h, ← f, not-false r k) l
+    exact k t l =
+        rw (← e, le-leb w 16 h, ← f, not-false r k)
+        (l ∙ all-same _ _ 16 (λ p m. rw (t, listed-at 16 p (λ q. number w (λ i. eqb (queuedAt (s .queue) i) q)) 0 m)))
 
 pub is-queue-exact-spec : {M : Type 1} → statement M
 is-queue-exact-spec =
@@ -37,5 +44,6 @@ is-queue-exact-spec =
     (λ c. search too-many)
     (λ c κs. search needs)
     (λ c. search no-place)
+    (λ c κs. search needs)
     (λ c κs. search needs)
     (λ c. search exact))

@@ -8,14 +8,13 @@ use Rattle.kit.specs.Range.{one}
 use Rattle.table.proofs.parts.is_queued_right.Statement.{statement}
 use Rattle.table.proofs.parts.is_queued_right.Tie as tie
 
-same-count : {t n d : ℕ} {b a : Bool} → t ≡ n → d ≡ one b → b ≡ a → eqb t d ≡ eqb n (one a)
-same-count e f g = rw (e, f, g)
+same-count : (t : ℕ) {d : ℕ} {b a : Bool} → d ≡ one b → b ≡ a → eqb t d ≡ eqb t (one a)
+same-count t f g = rw (f, g)
 
 pub is-queued-right-spec : {M : Type 1} → statement M
 is-queued-right-spec =
     tie.close
     (tie.spec
-    (λ c κs. search needs)
     (λ c κs. search needs)
     (λ c κs. search needs)
     (λ c. search same-count))

@@ -10,10 +10,10 @@ use Rattle.table.proofs.parts.is_stamp_new.Statement.{statement}
 use Rattle.table.proofs.parts.is_stamp_new.Tie as tie
 
 abbrev Inv-loop : tie.InvT-loop
-Inv-loop p stamps q₀ q = Held p (λ k. not (eqb (getD stamps k 0) (getD stamps p 0))) q
+Inv-loop stamps p q₀ q = Held p (λ k. not (eqb (getD stamps k 0) (getD stamps p 0))) q
 
 abbrev μ-loop : tie.MeasureT-loop
-μ-loop p stamps q₀ q = p - q
+μ-loop stamps p q₀ q = p - q
 
 pub is-stamp-new-spec : {M : Type 1} → statement M
 unfolding stampNew

@@ -5,14 +5,15 @@ use lib.ListN.{getD}
 use Rattle.kit.proofs.Loops.{Held, alls}
 use Rattle.table.specs.Parts.{siteSound}
 use Rattle.table.specs.Places.{noSite}
+use Rattle.table.proofs.Marked.{rowsOf}
 use Rattle.table.proofs.sound.are_sites_sound.Statement.{statement}
 use Rattle.table.proofs.sound.are_sites_sound.Tie as tie
 
 abbrev Inv-loop : tie.InvT-loop
-Inv-loop n lasts marks stamps sites k₀ k = Held 7 (λ j. siteSound n lasts marks stamps j (getD sites j noSite)) k
+Inv-loop n lasts agreed opposed stamps sites k₀ k = Held 7 (λ j. siteSound n lasts (rowsOf agreed opposed) stamps j (getD sites j noSite)) k
 
 abbrev μ-loop : tie.MeasureT-loop
-μ-loop n lasts marks stamps sites k₀ k = 7 - k
+μ-loop n lasts agreed opposed stamps sites k₀ k = 7 - k
 
 pub are-sites-sound-spec : {M : Type 1} → statement M
 are-sites-sound-spec =

@@ -1,20 +1,21 @@
 -- `table::sound::sound` meets its contract: it computes `partsSound`, a law for each of its returns, and that is `soundTable`.
 use mathlib.Core.Path.{_≡_, _∙_}
 use mathlib.Core.Bool.{Bool, true, false, not, _&&_}
-use mathlib.Core.List.{List}
-use Prim.Native.Nat.{ℕ}
+use mathlib.Core.List.{List, []}
+use Prim.Native.Nat.{ℕ, _/_, _%_}
 use borrow.Author.Needs.{needs}
 use borrow.Author.Tests.{not-true, not-false}
 use lib.Dec.{leb}
 use lib.ListN.{getD}
+use Rattle.kit.specs.Lists.{listed}
 use Rattle.kit.specs.Range.{all}
-use Rattle.vote.specs.Data.{requestAt}
+use Rattle.vote.specs.Data.{isOk, isOther, requestAt, voteAt}
 use Rattle.table.specs.Parts.{lastsOf, stampsOf, ballotsOf, marksOf, requestSound, siteSound, messageSound, partsSound}
 use Rattle.table.specs.Places.{noSite, noMessage}
 use Rattle.table.specs.Sound.{soundTable}
 use Rattle.table.specs.declared.data.Table.{Table}
 use Rattle.table.specs.declared.marks.Ballot.{Ballot}
-use Rattle.table.specs.declared.marks.Marks.{Marks}
+use Rattle.table.proofs.Marked.{rowsOf, rows-said}
 use Rattle.table.proofs.Same.{parts-sound}
 use Rattle.table.proofs.sound.sound.Statement.{statement}
 use Rattle.table.proofs.sound.sound.Tie as tie
@@ -32,13 +33,18 @@ module _ (t : Table) {a : Bool} (count : a ≡ (leb 1 (t .count) && leb (t .coun
     part-2 h = rw (← count, not-false a counted, ← times, ← named, ← requests, not-true b h)
 
     module _
-        {ballots : List Ballot} {marks : List Marks} {d : Bool} (asked : not b ≡ false) (said : ballots ≡ ballotsOf (t .sites)) (own : marks ≡ marksOf ballots)
-        (sites : d ≡ all 7 (λ k. siteSound (t .count) lasts marks stamps k (getD (t .sites) k noSite))) where
+        {ballots : List Ballot} {oks others : List Bool} {d : Bool} (asked : not b ≡ false) (said : ballots ≡ ballotsOf (t .sites))
+        (ok : oks ≡ listed 112 (λ i. isOk (voteAt (getD ballots (i % 7) (record { votes = [] }) .votes) (i / 7) .mark)))
+        (other : others ≡ listed 112 (λ i. isOther (voteAt (getD ballots (i % 7) (record { votes = [] }) .votes) (i / 7) .mark)))
+        (sites : d ≡ all 7 (λ k. siteSound (t .count) lasts (rowsOf oks others) stamps k (getD (t .sites) k noSite))) where
+      own : rowsOf oks others ≡ marksOf ballots
+      own = rows-said ballots ok other
+
       part-3 : not d ≡ true → false ≡ partsSound t
       unfolding partsSound
       part-3 h = rw (← count, not-false a counted, ← times, ← named, ← requests, not-false b asked, ← said, ← own, ← sites, not-true d h)
 
-      part-4 : {g : Bool} → not d ≡ false → g ≡ all 64 (λ j. messageSound (t .count) marks stamps (getD (t .messages) j noMessage)) → g ≡ partsSound t
+      part-4 : {g : Bool} → not d ≡ false → g ≡ all 64 (λ j. messageSound (t .count) (rowsOf oks others) stamps (getD (t .messages) j noMessage)) → g ≡ partsSound t
       unfolding partsSound
       part-4 h e = rw (← count, not-false a counted, ← times, ← named, ← requests, not-false b asked, ← said, ← own, ← sites, not-false d h) e
 

@@ -1,0 +1,2 @@
+-- Document 01's bench cases 1 to 10, computed.
+pub mod Cases

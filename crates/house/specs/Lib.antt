@@ -1,0 +1,2 @@
+-- What the contracts of `house` cite.
+pub mod House

@@ -1,0 +1,16 @@
+-- Written by scripts/promises: for each public call of `record`, no two outcomes satisfy its promise.
+use mathlib.Core.Path.{refl}
+use Rattle.outcomes.specs.Outcomes.{OneOutcome}
+use Rattle.outcomes.proofs.Same.{as-one}
+use Rattle.record.proofs.blank_step.Kinds as blank-step-kinds
+use Rattle.record.proofs.blank_step.Reads as blank-step-reads
+use Rattle.record.proofs.read_record.Kinds as read-record-kinds
+use Rattle.record.proofs.read_record.Reads as read-record-reads
+
+-- record::blank_step
+pub one-blank-step : OneOutcome blank-step-kinds.ps blank-step-kinds.r blank-step-reads.Learnt
+one-blank-step κs a r r′ w w′ p q = (as-one p q, refl)
+
+-- record::read_record
+pub one-read-record : OneOutcome read-record-kinds.ps read-record-kinds.r read-record-reads.Learnt
+one-read-record κs a r r′ w w′ p q = (as-one p q, refl)

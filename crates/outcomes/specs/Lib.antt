@@ -1,0 +1,2 @@
+-- What it is that a promise leaves one outcome.
+pub mod Outcomes

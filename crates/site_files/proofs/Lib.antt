@@ -1,0 +1,2 @@
+-- The laws of a site's copy in a buffer.
+mod Laws

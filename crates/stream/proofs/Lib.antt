@@ -1,0 +1,2 @@
+-- The laws of the programs' shared loop.
+mod Laws

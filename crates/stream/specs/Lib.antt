@@ -1,0 +1,2 @@
+-- What the contracts of the programs' shared loop cite.
+pub mod Stands
