@@ -120,9 +120,6 @@ implies-means b e f = rw (e, f)
 pub implies-both : {r t u a b : Bool} → r ≡ implies t u → t ≡ a → u ≡ b → r ≡ implies a b
 implies-both e f g = rw (← f, ← g) e
 
-pub eqb-means : {r : Bool} {x a : ℕ} (b : ℕ) → r ≡ eqb x b → x ≡ a → r ≡ eqb a b
-eqb-means b e f = rw (← f) e
-
 -- a signed number, of which the code knows that it fits
 module _ {r : Bool} {v : ℤ} where
   pub zero-means : r ≡ isZero (toZ w32 (ofZ w32 v)) → SFits w32 v → r ≡ isZero v

@@ -5,7 +5,7 @@ use lib.Dec.{eqb}
 use lib.ListN.{getD}
 use Rattle.kit.proofs.Loops.{Held, alls}
 use Rattle.table.specs.Blank.{zeros}
-use Rattle.table.proofs.Chains.{eqb-means}
+use Rattle.kit.proofs.Bools.{eqb-means}
 use Rattle.table.proofs.blank.are_zero_places.Statement.{statement}
 use Rattle.table.proofs.blank.are_zero_places.Tie as tie
 
