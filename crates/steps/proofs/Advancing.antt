@@ -5,10 +5,17 @@ use mathlib.Core.Path.{_≡_, refl, sym, _∙_}
 use native.Mathlib.Omega.{arith}
 use borrow.Author.Tests.{eq-eqb, ne-eqb, leb-true, not-true, not-false}
 use lib.Dec.{eqb, leb}
+use lib.ListN.{length, length-set}
 use Rattle.kit.proofs.Bools.{and-left, and-right, of-cond}
+use Rattle.kit.proofs.Changes.{length-changed}
+use Rattle.kit.specs.Lists.{changed}
 use Rattle.record.specs.declared.Step.{Step}
+use Rattle.table.specs.Places.{withSite, withSites, withRequest, withMessage}
 use Rattle.table.specs.Sound.{countRight, soundTable}
+use Rattle.table.specs.declared.data.Message.{Message}
 use Rattle.table.specs.declared.data.Table.{Table}
+use Rattle.vote.specs.declared.data.Request.{Request}
+use Rattle.vote.specs.declared.data.Site.{Site}
 use Rattle.steps.specs.Answers.{Done, refusal, refusedAs}
 use Rattle.steps.specs.Numbers.{beginNumber, tellNumber, deliverNumber, dropNumber, downNumber, upNumber, retireNumber, readNumber}
 use Rattle.steps.specs.Steps.{unlessRefused, begun, entered, told, delivered, dropped, putUp, retired, readings, advanced, stepped}
@@ -85,21 +92,42 @@ sound-count t b h n = count-of t (and-left (countRight t) _ (sym h ∙ not-false
 
 -- ---- what a step does not change
 
--- the site count
-pub advanced-count : (t : Table) (a : Step) → advanced t a .table .count ≡ t .count
+-- the site count, and how long the three lists are
+pub record Kept (t u : Table) : Type 0 where
+  pub count : u .count ≡ t .count
+  pub sites : length (u .sites) ≡ length (t .sites)
+  pub requests : length (u .requests) ≡ length (t .requests)
+  pub messages : length (u .messages) ≡ length (t .messages)
+
+pub kept-whole : (t : Table) → Kept t t
+kept-whole t = record { count = refl; sites = refl; requests = refl; messages = refl }
+
+kept-site : (t u : Table) (k : ℕ) (s : Site) → Kept t u → Kept t (withSite k s u)
+kept-site t u k s h = record { count = h .count; sites = length-set (u .sites) k s ∙ h .sites; requests = h .requests; messages = h .messages }
+
+kept-request : (t u : Table) (p : ℕ) (q : Request) → Kept t u → Kept t (withRequest p q u)
+kept-request t u p q h = record { count = h .count; sites = h .sites; requests = length-set (u .requests) p q ∙ h .requests; messages = h .messages }
+
+kept-message : (t : Table) (j : ℕ) (m : Message) → Kept t (withMessage j m t)
+kept-message t j m = record { count = refl; sites = refl; requests = refl; messages = length-set (t .messages) j m }
+
+kept-changed : (t : Table) (f : ℕ → Site → Site) → Kept t (withSites (changed 7 f (t .sites)) t)
+kept-changed t f = record { count = refl; sites = length-changed 7 f (t .sites); requests = refl; messages = refl }
+
+pub advanced-kept : (t : Table) (a : Step) → Kept t (advanced t a .table)
 unfolding advanced begun entered told delivered dropped putUp retired readings
-advanced-count t a =
-    of-cond Same (eqb (a .code) 1) (λ e. quiet (beginNumber t a) (begun t a) refl)
-    (λ e. of-cond Same (eqb (a .code) 2) (λ e. quiet (tellNumber t a) (told t a) refl)
-    (λ e. of-cond Same (eqb (a .code) 3) (λ e. quiet (deliverNumber t a) (delivered t a) refl)
-    (λ e. of-cond Same (eqb (a .code) 4) (λ e. quiet (dropNumber t a) (dropped t a) refl)
-    (λ e. of-cond Same (eqb (a .code) 5) (λ e. quiet (downNumber t a) (putUp false t a) refl)
-    (λ e. of-cond Same (eqb (a .code) 6) (λ e. quiet (upNumber t a) (putUp true t a) refl)
-    (λ e. of-cond Same (eqb (a .code) 7) (λ e. quiet (retireNumber t a) (retired t a) refl)
-    (λ e. of-cond Same (eqb (a .code) 8) (λ e. quiet (readNumber t a) (readings t a) refl) (λ e. refl))))))))
+advanced-kept t a =
+    of-cond Same (eqb (a .code) 1) (λ e. done (beginNumber t a) (begun t a) (kept-site t _ _ _ (kept-request t _ _ _ (kept-site t t _ _ (kept-whole t)))))
+    (λ e. of-cond Same (eqb (a .code) 2) (λ e. done (tellNumber t a) (told t a) (kept-message t _ _))
+    (λ e. of-cond Same (eqb (a .code) 3) (λ e. done (deliverNumber t a) (delivered t a) (kept-site t t _ _ (kept-whole t)))
+    (λ e. of-cond Same (eqb (a .code) 4) (λ e. done (dropNumber t a) (dropped t a) (kept-message t _ _))
+    (λ e. of-cond Same (eqb (a .code) 5) (λ e. done (downNumber t a) (putUp false t a) (kept-site t t _ _ (kept-whole t)))
+    (λ e. of-cond Same (eqb (a .code) 6) (λ e. done (upNumber t a) (putUp true t a) (kept-site t t _ _ (kept-whole t)))
+    (λ e. of-cond Same (eqb (a .code) 7) (λ e. done (retireNumber t a) (retired t a) (kept-request t _ _ _ (kept-changed t _)))
+    (λ e. of-cond Same (eqb (a .code) 8) (λ e. done (readNumber t a) (readings t a) (kept-whole t)) (λ e. kept-whole t))))))))
   where
     Same : Stepped → Type 0
-    Same r = r .table .count ≡ t .count
+    Same r = Kept t (r .table)
 
-    quiet : (number : ℕ) (d : Done) → d .table .count ≡ t .count → Same (unlessRefused number d t)
-    quiet number d h = of-cond Same (eqb number 0) (λ e. h) (λ e. refl)
+    done : (number : ℕ) (d : Done) → Kept t (d .table) → Same (unlessRefused number d t)
+    done number d h = of-cond Same (eqb number 0) (λ e. h) (λ e. kept-whole t)

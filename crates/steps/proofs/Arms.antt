@@ -8,7 +8,7 @@ use native.Mathlib.Omega.{arith}
 use borrow.Author.Tests.{eq-eqb, ne-eqb, eqb-true, ltb-true, lt-ltb, le-ltb, not-true, not-false}
 use lib.Dec.{eqb, leb, ltb}
 use lib.IntN.{pos}
-use lib.ListN.{length, List·getD-eq-default}
+use lib.ListN.{length, set, List·getD-eq-default}
 use lib.Seq.{set-getD}
 use Rattle.kit.proofs.Bools.{by-test, by-lt, and-left}
 use Rattle.kit.proofs.Changes.{changed-none}
@@ -17,9 +17,11 @@ use Rattle.record.specs.declared.Step.{Step}
 use Rattle.stamps.specs.Issue.{issueStamp, issueLast}
 use Rattle.table.specs.Fresh.{blankMessage}
 use Rattle.table.specs.Places.{noSite, noMessage, siteAt, messageAt, placeAt, withSite, withSites, withRequest, withMessage}
+use Rattle.table.specs.declared.data.Message.{Message}
 use Rattle.table.specs.declared.data.Table.{Table}
-use Rattle.vote.specs.Data.{isOpen, noRequest, blankRequest, headsOf, requestIn, withLast, withUp}
+use Rattle.vote.specs.Data.{isOpen, noRequest, blankRequest, headOf, headsOf, requestIn, withLast, withUp}
 use Rattle.vote.specs.declared.data.Head.{Head}
+use Rattle.vote.specs.declared.data.Request.{Request}
 use Rattle.vote.specs.declared.data.Site.{Site}
 use Rattle.vote.specs.declared.data.Verdict.{Verdict}
 use Rattle.vote.specs.declared.data.Verdict.the-variants as verdict
@@ -39,17 +41,23 @@ use Rattle.steps.specs.declared.retire.Leaving.{Leaving}
 use Rattle.steps.specs.declared.sites.Turn.{Turn}
 use Rattle.steps.proofs.Advancing.{code-1, code-2, code-3, code-4, code-5, code-6, code-7, code-8, code-0, code-none}
 use Rattle.steps.proofs.Allowed.{site-index, free-place, free-message, message-there, may-begin, may-tell, may-deliver, may-drop, may-down, may-up, may-read, may-retire, named-place, MayTell, MayBegin, MayRetire}
-use Rattle.steps.proofs.Found.{within-low}
+use Rattle.steps.proofs.Found.{within-low, within-under}
 use Rattle.steps.proofs.Settling.{received-is, settled-is, entered-is}
-use Rattle.steps.proofs.Summaries.{free-place-is, place-of-is, free-message-is}
+use Rattle.steps.proofs.Summaries.{free-place-is, place-of-is, free-message-is, heads-set, used-set}
 
--- ---- where the pieces are
-
-pub record Aimed (t : Table) (a : Step) (heads : List Head) (j x k p i : ℕ) : Type 0 where
+-- a table of at most 7 sites, its lists as long as the arrays in memory, and its two summaries
+pub record Held (t : Table) (heads : List Head) (used : List Bool) : Type 0 where
   pub few : t .count ≤ 7
   pub sites : length (t .sites) ≡ 7
   pub requests : length (t .requests) ≡ 16
+  pub messages : length (t .messages) ≡ 64
   pub heads-are : heads ≡ headsOf (t .requests)
+  pub used-are : used ≡ usedOf (t .messages)
+
+-- ---- where the pieces are
+
+pub record Aimed (t : Table) (a : Step) (heads : List Head) (used : List Bool) (j x k p i : ℕ) : Type 0 where
+  pub held : Held t heads used
   pub message : j ≡ cond (eqb (a .code) 2) (freeMessage t) (a .place)
   pub message-at : x ≡ within j 63
   pub site : k ≡ siteFor (a .code) (a .site) (messageAt t x .to)
@@ -57,20 +65,16 @@ pub record Aimed (t : Table) (a : Step) (heads : List Head) (j x k p i : ℕ) : 
   pub place-at : i ≡ within p 15
 
 pub aim-is
-    : (t : Table) (a : Step) {heads : List Head} {used : List Bool} {j x k p i y z : ℕ} → t .count ≤ 7 → length (t .sites) ≡ 7 → length (t .requests) ≡ 16
-    → heads ≡ headsOf (t .requests) → used ≡ usedOf (t .messages) → j ≡ messageFor (a .code) used (a .place) → y ≡ j → x ≡ within y 63
+    : (t : Table) (a : Step) {heads : List Head} {used : List Bool} {j x k p i y z : ℕ} → Held t heads used → j ≡ messageFor (a .code) used (a .place) → y ≡ j → x ≡ within y 63
     → k ≡ siteFor (a .code) (a .site) (messageAt t x .to) → p ≡ placeFor (a .code) heads (a .stamp) (messageAt t x .request) → z ≡ p → i ≡ within z 15
-    → Aimed t a heads j x k p i
+    → Aimed t a heads used j x k p i
 unfolding messageFor placeFor
-aim-is t a few sites requests hh hu hj hy hx hk hp hz hi = record {
-  few = few;
-  sites = sites;
-  requests = requests;
-  heads-are = hh;
-  message = rw (hu, free-message-is t) at hj;
+aim-is t a held hj hy hx hk hp hz hi = record {
+  held = held;
+  message = rw (held .used-are, free-message-is t) at hj;
   message-at = rw hy at hx;
   site = hk;
-  place = rw (hh, free-place-is t, place-of-is t (a .stamp)) at hp;
+  place = rw (held .heads-are, free-place-is t, place-of-is t (a .stamp)) at hp;
   place-at = rw hz at hi;
 }
 
@@ -120,18 +124,23 @@ module _ (t : Table) (a : Step) (k p : ℕ) (u : Table) (w : Answer) (due : Verd
   unfolding finished
   finish-quiet n = rw (← hb, not-false b n) at h
 
-module _ {t : Table} {a : Step} {heads : List Head} {j x k p i : ℕ} (h : Aimed t a heads j x k p i) where
+pub record PutBack (t : Table) (a : Step) (k p : ℕ) (u : Table) (heads : List Head) (used : List Bool) (w : Answer) (d : Verdict) : Type 0 where
+  pub done : finished k p d u w ≡ advanced t a
+  pub heads-are : heads ≡ headsOf (u .requests)
+  pub used-are : used ≡ usedOf (u .messages)
+
+module _ {t : Table} {a : Step} {heads : List Head} {used : List Bool} {j x k p i : ℕ} (h : Aimed t a heads used j x k p i) where
   -- ---- which pieces they are, by the code
 
   site-is : (a .code ≡ 3 → ⊥) → noSuchSite t (a .site) ≡ false → k ≡ a .site - 1
   unfolding siteFor
   site-is e y =
       let r = site-index t (a .site) y in
-      let f : t .count ≤ 7 = h .few in
+      let f : t .count ≤ 7 = h .held .few in
       (rw (ne-eqb (a .code) 3 e) at (h .site)) ∙ sym (within-low (a .site - 1) 6 (omega (arith, r .0)))
 
   there : a .site - 1 < t .count → a .site - 1 < length (t .sites)
-  there l = let f : t .count ≤ 7 = h .few in let g : length (t .sites) ≡ 7 = h .sites in omega arith
+  there l = let f : t .count ≤ 7 = h .held .few in let g : length (t .sites) ≡ 7 = h .held .sites in omega arith
 
   place-free : a .code ≡ 1 → p ≡ freePlace t
   place-free e = rw (eq-eqb (a .code) 1 e) at (h .place)
@@ -258,7 +267,7 @@ module _ {t : Table} {a : Step} {heads : List Head} {j x k p i : ℕ} (h : Aimed
   receiver-up : a .code ≡ 3 → (ltb (messageAt t x .to) 7 && siteAt t k .up) ≡ siteAt t (messageAt t x .to) .up
   receiver-up e =
       by-lt (messageAt t x .to) 7 (λ l. rw (lt-ltb (messageAt t x .to) 7 l, receiver-is e l))
-      (λ l. rw (le-ltb (messageAt t x .to) 7 l, no-site t (messageAt t x .to) (h .sites) l))
+      (λ l. rw (le-ltb (messageAt t x .to) 7 l, no-site t (messageAt t x .to) (h .held .sites) l))
 
   deliver-number : a .code ≡ 3 → deliverNumberOf j (messageAt t x) (siteAt t k) ≡ deliverNumber t a
   unfolding deliverNumberOf deliverNumber noMessageAt
@@ -285,10 +294,10 @@ module _ {t : Table} {a : Step} {heads : List Head} {j x k p i : ℕ} (h : Aimed
       let p-is : p ≡ messageAt t x .request = rw (ne-eqb (a .code) 1 (λ z. omega arith), eq-eqb (a .code) 3 e) at (h .place) in
       let j-is : j ≡ a .place = message-given (λ z. omega arith) in
       let x-is : x ≡ a .place = message-low (rw j-is l) ∙ j-is in
-      let there : messageAt t x .to < length (t .sites) = rw (h .sites) o in
+      let there : messageAt t x .to < length (t .sites) = rw (h .held .sites) o in
       rw (hc, receiver-is e o, p-is, ← x-is)
       (settled-is t (messageAt t x .to) (messageAt t x .request) (pos 0) 0 there (named-is e) _ _
-      (received-is (messageAt t x .to) (t .count) (t .requests) (messageAt t x .request) (h .heads-are) (named-is e) (siteAt t (messageAt t x .to)) (messageAt t x .verdict) (messageAt t x .oks) (messageAt t x .others)))
+      (received-is (messageAt t x .to) (t .count) (t .requests) (messageAt t x .request) (h .held .heads-are) (named-is e) (siteAt t (messageAt t x .to)) (messageAt t x .verdict) (messageAt t x .oks) (messageAt t x .others)))
 
   pub deliver-arm
       : a .code ≡ 3 → {c : Delivery} → c ≡ deliverPlan (t .count) j (messageAt t x) heads (siteAt t k) (placeAt t i)
@@ -323,8 +332,8 @@ module _ {t : Table} {a : Step} {heads : List Head} {j x k p i : ℕ} (h : Aimed
       let far : a .site - 1 < length (t .sites) = there (site-index t (a .site) (m .site) .0) in
       rw (hc, k-is, i-is, p-is)
       (entered-is t (a .site - 1) (freePlace t) (stored a (issueStamp (issueFor t a)))
-      (withLast (issueLast (siteAt t (a .site - 1) .last) (issueFor t a)) (siteAt t (a .site - 1))) (pos (issueStamp (issueFor t a))) far low (h .requests)
-      (rw (h .heads-are, ← within-low (freePlace t) 15 (omega arith))))
+      (withLast (issueLast (siteAt t (a .site - 1) .last) (issueFor t a)) (siteAt t (a .site - 1))) (pos (issueStamp (issueFor t a))) far low (h .held .requests)
+      (rw (h .held .heads-are, ← within-low (freePlace t) 15 (omega arith))))
 
   pub begin-arm
       : a .code ≡ 1 → {c : Entry} → c ≡ beginPlan (t .count) heads (siteAt t k) p (placeAt t i) a
@@ -370,3 +379,29 @@ module _ {t : Table} {a : Step} {heads : List Head} {j x k p i : ℕ} (h : Aimed
       : (a .code ≡ 1 → ⊥) → (a .code ≡ 2 → ⊥) → (a .code ≡ 3 → ⊥) → (a .code ≡ 4 → ⊥) → (a .code ≡ 5 → ⊥) → (a .code ≡ 6 → ⊥) → (a .code ≡ 7 → ⊥)
       → (a .code ≡ 8 → ⊥) → {u : Table} {w : Answer} {d : Verdict} → u ≡ t → w ≡ refusal 2 → d ≡ verdict.Open → finished k p d u w ≡ advanced t a
   none-arm n1 n2 n3 n4 n5 n6 n7 n8 hu hw hd = code-none t a n1 n2 n3 n4 n5 n6 n7 n8 (rw (hd, hu, hw) (unleft k p _ _))
+
+  -- ---- the summaries
+
+  -- the pieces are put back: the step is done but for a verdict that is left, and the summaries are those of the table
+  module _ {u : Table} {hs : List Head} {us : List Bool} {w : Answer} {d : Verdict} (done : finished k p d u w ≡ advanced t a) where
+    -- no request and no message is stored
+    pub put-site : u .requests ≡ t .requests → u .messages ≡ t .messages → hs ≡ heads → us ≡ used → PutBack t a k p u hs us w d
+    put-site hr hm hh hu = record { done = done; heads-are = hh ∙ h .held .heads-are ∙ ap headsOf (sym hr); used-are = hu ∙ h .held .used-are ∙ ap usedOf (sym hm) }
+
+    -- a request
+    pub put-request
+        : (q : Request) {e : Head} → u .requests ≡ set (t .requests) i q → u .messages ≡ t .messages → e ≡ headOf q → hs ≡ set heads i e → us ≡ used
+        → PutBack t a k p u hs us w d
+    put-request q {e} hr hm he hh hu = record {
+      done = done;
+      heads-are = hh ∙ rw (he, h .held .heads-are, hr) (sym (heads-set (t .requests) i q (rw (h .place-at) (within-under p 15)) (h .held .requests)));
+      used-are = hu ∙ h .held .used-are ∙ ap usedOf (sym hm);
+    }
+
+    -- a message
+    pub put-message : (m : Message) → u .requests ≡ t .requests → u .messages ≡ set (t .messages) x m → hs ≡ heads → us ≡ set used x (m .used) → PutBack t a k p u hs us w d
+    put-message m hr hm hh hu = record {
+      done = done;
+      heads-are = hh ∙ h .held .heads-are ∙ ap headsOf (sym hr);
+      used-are = hu ∙ rw (h .held .used-are, hm) (sym (used-set (t .messages) x m (rw (h .message-at) (within-under j 63)) (h .held .messages)));
+    }

@@ -15,4 +15,5 @@ pub mod Allowed
 pub mod Upkeep
 -- Runs over a buffer of records.
 pub mod Running
+mod Turning
 pub mod Nights

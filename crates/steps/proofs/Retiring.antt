@@ -59,27 +59,26 @@ any-site : (p j k : ℕ) (s : Site) → forgotten p j s ≡ forgotten p k s
 unfolding forgotten
 any-site p j k s = refl
 
--- after k turns the first k sites of t have forgotten place p; n will
-pub record Forgot (p n : ℕ) (t : Table) (k : ℕ) (u : Table) : Type 0 where
+-- after k turns of n the first k of the sites have forgotten place p
+pub record Forgot (p n : ℕ) (sites : List Site) (k : ℕ) (now : List Site) : Type 0 where
   pub few : n ≤ 7
   pub in-range : k ≤ n
-  pub so-far : u ≡ withSites (changed k (forgotten p) (t .sites)) t
+  pub so-far : now ≡ changed k (forgotten p) sites
 
-pub forgot-none : {p n : ℕ} {t : Table} → n ≤ 7 → Forgot p n t 0 t
-forgot-none {p} {n} {t} h = record { few = h; in-range = omega arith; so-far = rw (changed-none (forgotten p) (t .sites)) }
+pub forgot-none : {p n : ℕ} {sites : List Site} → n ≤ 7 → Forgot p n sites 0 sites
+forgot-none {p} {n} {sites} h = record { few = h; in-range = omega arith; so-far = sym (changed-none (forgotten p) sites) }
 
-pub forgot-more : {p n : ℕ} {t : Table} {k : ℕ} {u : Table} {s : Site} → Forgot p n t k u → k < n → s ≡ forgotten p 0 (siteAt u k) → Forgot p n t (k + 1) (withSite k s u)
-forgot-more {p} {n} {t} {k} {u} {s} f l e = record {
+pub forgot-more
+    : {p n : ℕ} {sites : List Site} {k : ℕ} {now : List Site} {s : Site} → Forgot p n sites k now → k < n → s ≡ forgotten p 0 (getD now k noSite)
+    → Forgot p n sites (k + 1) (set now k s)
+forgot-more {p} {n} {sites} {k} {now} {s} f l e = record {
   few = f .few;
   in-range = omega arith;
-  so-far =
-      ap (λ (a : Site). withSite k a u) (e ∙ any-site p 0 k (siteAt u k))
-      ∙ ap (λ (l : List Site). withSites l u) (changed-turn k (forgotten p) (t .sites) noSite (ap (λ (v : Table). v .sites) (f .so-far)))
-      ∙ ap (withSites (changed (k + 1) (forgotten p) (t .sites))) (f .so-far);
+  so-far = ap (set now k) (e ∙ any-site p 0 k (getD now k noSite)) ∙ changed-turn k (forgotten p) sites noSite (f .so-far);
 }
 
-pub forgot-all : {p n : ℕ} {t : Table} {k : ℕ} {u : Table} → Forgot p n t k u → n ≤ k → u ≡ withSites (changed n (forgotten p) (t .sites)) t
-forgot-all {p} {n} {t} {k} {u} f l = let e : n ≡ k = omega (arith, f .in-range) in rw e (f .so-far)
+pub forgot-all : {p n : ℕ} {sites : List Site} {k : ℕ} {now : List Site} → Forgot p n sites k now → n ≤ k → now ≡ changed n (forgotten p) sites
+forgot-all {p} {n} {sites} {k} {now} f l = let e : n ≡ k = omega (arith, f .in-range) in rw e (f .so-far)
 
 -- ---- the step
 

@@ -4,7 +4,7 @@ use mathlib.Core.Bool.{Bool, true, false, not, _||_, cond}
 use mathlib.Core.List.{List, [], _∷_, _++_}
 use Prim.Native.Nat.{ℕ, zero, suc, _+_, _-_, _^_, _≤_, _<_}
 use native.Mathlib.Omega.{arith}
-use borrow.Author.Tests.{leb-false, ltb-false, not-true, not-false}
+use borrow.Author.Tests.{eq-eqb, ne-eqb, leb-false, ltb-false, not-true, not-false}
 use lib.Dec.{lit<, eqb, leb, ltb}
 use lib.IntN.{ℤ, pos, negsuc, natAbs}
 use lib.ListN.{length, take, drop, length-append, length-drop}
@@ -19,22 +19,34 @@ use Rattle.lines.specs.Lines.{lineOf, fitted}
 use Rattle.lines.proofs.Writes.{fitted-in}
 use Rattle.record.specs.Records.{isCut, recordOf}
 use Rattle.record.specs.declared.Record.{Record}
+use Rattle.record.specs.declared.Step.{Step}
 use Rattle.record.proofs.Laws.{next-cut, next-whole, whole-next, next-inside}
 use Rattle.record.proofs.Frames.{cut-header}
 use Rattle.table.specs.Sound.{soundTable}
 use Rattle.table.specs.declared.data.Table.{Table}
-use Rattle.steps.specs.Night.{Parted, before, partedBy, parted, answeredOn, lineFor, Part, noPart, onePart, isFull, partOf, partFrom, ranAs, ran, ranInto}
+use Rattle.steps.specs.Answers.{refusal}
+use Rattle.steps.specs.Steps.{advanced}
+use Rattle.steps.specs.Night.{Parted, before, partedBy, parted, answeredOn, lineFor, Part, noPart, onePart, isFull, partOf, partFrom, partBehind, ranAs, ran, ranInto}
 use Rattle.steps.specs.declared.answer.Answer.{Answer}
 use Rattle.steps.specs.declared.answer.Stepped.{Stepped}
 use Rattle.steps.specs.declared.run.Ran.{Ran}
-use Rattle.steps.proofs.Advancing.{advanced-count}
+use Rattle.steps.proofs.Advancing.{Kept, kept-whole, advanced-kept}
 
 -- ---- the answer to a record
 
--- the site count stays
-answered-count : (t : Table) (r : Record) → answeredOn t r .table .count ≡ t .count
+-- the site count stays, and how long the three lists are
+pub answered-kept : (t : Table) (r : Record) → Kept t (answeredOn t r .table)
 unfolding answeredOn
-answered-count t r = of-cond (λ (s : Stepped). s .table .count ≡ t .count) (eqb (r .number) 0) (λ e. advanced-count t (r .step)) (λ e. refl)
+answered-kept t r = of-cond (λ (s : Stepped). Kept t (s .table)) (eqb (r .number) 0) (λ e. advanced-kept t (r .step)) (λ e. kept-whole t)
+
+-- one that was refused when it was read, and one that holds a step
+pub answered-refused : (t : Table) (r : Record) → (r .number ≡ 0 → ⊥) → {w : Answer} → w ≡ refusal (r .number) → record { answer = w; table = t } ≡ answeredOn t r
+unfolding answeredOn
+answered-refused t r h e = rw (ne-eqb (r .number) 0 h, e) refl
+
+pub answered-step : (t : Table) (r : Record) → r .number ≡ 0 → {z : Stepped} → z ≡ advanced t (r .step) → z ≡ answeredOn t r
+unfolding answeredOn
+answered-step t r h e = rw (eq-eqb (r .number) 0 h) e
 
 -- a result of 64 bits with its sign is at most 2 ^ 63 from 0
 pub abs-fits : (z : ℤ) → SFits w64 z → natAbs z ≤ 2 ^ 63
@@ -102,36 +114,103 @@ module _ (t : Table) (nth : ℕ) (s : List ℕ) (room : ℕ) where
 abbrev pub goneOn : ℕ → ℕ → Part → Ran
 goneOn at to p = record { number = 0; taken = at + p .taken; written = to + length (p .lines); next = p .next; table = p .table }
 
--- where the run stands when it has taken `at` bytes and written `to`: what is left to do from here, behind that, is all that was to do
-pub record Going (t₀ : Table) (nth₀ : ℕ) (s out₀ : List ℕ) (end room : ℕ) (t : Table) (out : List ℕ) (at to nth : ℕ) : Type 0 where
+-- between two records, when it has taken `at` bytes and written `to`: what is left to do, behind that, is the whole
+pub record Going (whole : Part) (s out₀ : List ℕ) (end room : ℕ) (t : Table) (out : List ℕ) (at to nth : ℕ) : Type 0 where
   pub all : end ≡ length s
   pub free : room ≡ length out₀
-  pub few : t .count ≤ 7
   pub inside : at ≤ length s
   pub ends : to ≤ length out
   pub long : length out ≡ length out₀
-  pub answer : goneOn at to (partFrom t nth (drop at s) (length out - to)) ≡ ranAs (partFrom t₀ nth₀ s (length out₀))
-  pub bytes : put out to (partFrom t nth (drop at s) (length out - to) .lines) ≡ put out₀ 0 (partFrom t₀ nth₀ s (length out₀) .lines)
+  pub answer : goneOn at to (partFrom t nth (drop at s) (length out - to)) ≡ ranAs whole
+  pub bytes : put out to (partFrom t nth (drop at s) (length out - to) .lines) ≡ put out₀ 0 (whole .lines)
 
-module _ {t₀ : Table} {nth₀ : ℕ} {s out₀ : List ℕ} {end room : ℕ} where
-  pub going-start : t₀ .count ≤ 7 → end ≡ length s → room ≡ length out₀ → Going t₀ nth₀ s out₀ end room t₀ out₀ 0 0 nth₀
-  going-start w e f =
-      let all : length out₀ - 0 ≡ length out₀ = omega arith in
+-- before the record r, whose bytes it has taken: its line and what is left behind it
+abbrev pub lineAt : Table → Record → ℕ → List ℕ
+lineAt t r nth = lineFor nth (answeredOn t r .answer)
+
+abbrev pub partAt : Table → Record → ℕ → List ℕ → ℕ → Part
+partAt t r nth s room = partFrom (answeredOn t r .table) (nth + 1) s (room - length (lineAt t r nth))
+
+pub record Facing (whole : Part) (s out₀ : List ℕ) (end room : ℕ) (t : Table) (r : Record) (out : List ℕ) (at to nth : ℕ) : Type 0 where
+  pub all : end ≡ length s
+  pub free : room ≡ length out₀
+  pub inside : at ≤ length s
+  pub ends : to ≤ length out
+  pub long : length out ≡ length out₀
+  pub goes : isFull (length out - to) nth ≡ false
+  pub answer : goneOn at (to + length (lineAt t r nth)) (partAt t r nth (drop at s) (length out - to)) ≡ ranAs whole
+  pub bytes : put out to (lineAt t r nth ++ partAt t r nth (drop at s) (length out - to) .lines) ≡ put out₀ 0 (whole .lines)
+
+-- there is room for a line
+more-room : (room nth : ℕ) → isFull room nth ≡ false → 89 ≤ room
+more-room room nth e = ltb-false room 89 (or-left (ltb room 89) (leb 18446744073709551615 nth) e)
+
+-- the record r and those behind it, where there is room
+behind-is
+    : (t : Table) (nth : ℕ) (r : Record) (s : List ℕ) (room : ℕ) → isFull room nth ≡ false
+    → partBehind t nth r s room ≡ onePart r (lineAt t r nth) (partAt t r nth s room)
+unfolding partOf
+behind-is t nth r s room e = let n : suc nth ≡ nth + 1 = omega arith in rw (e, ← n) refl
+
+module _ {whole : Part} {s out₀ : List ℕ} {end room : ℕ} where
+  pub facing-start
+      : (t : Table) (r : Record) (nth : ℕ) → end ≡ length s → room ≡ length out₀ → r .next ≤ length s → isFull (length out₀) nth ≡ false
+      → whole ≡ partBehind t nth r (drop (r .next) s) (length out₀) → Facing whole s out₀ end room t r out₀ (r .next) 0 nth
+  facing-start t r nth e f l g w =
+      let none : length out₀ - 0 ≡ length out₀ = omega arith in
+      let is : whole ≡ onePart r line later = w ∙ behind-is t nth r (drop (r .next) s) (length out₀) g in
+      let wrote : 0 + length line + length (later .lines) ≡ length (line ++ later .lines) = rw length-append (omega arith) in
       record {
         all = e;
         free = f;
-        few = w;
-        inside = omega arith;
+        inside = l;
         ends = omega arith;
         long = refl;
-        answer = rw all (ap₂ (λ (k l : ℕ). record { number = 0; taken = k; written = l; next = p .next; table = p .table }) (zero-add (p .taken)) (zero-add (length (p .lines))));
-        bytes = rw all refl;
+        goes = rw none g;
+        answer = rw (none, is) (ap (λ (k : ℕ). record { number = 0; taken = r .next + later .taken; written = k; next = later .next; table = later .table }) wrote);
+        bytes = rw (none, is) refl;
       }
     where
-      p : Part
-      p = partFrom t₀ nth₀ s (length out₀)
+      line : List ℕ
+      line = lineAt t r nth
 
-  module _ {t : Table} {out : List ℕ} {at to nth : ℕ} (g : Going t₀ nth₀ s out₀ end room t out at to nth) where
+      later : Part
+      later = partAt t r nth (drop (r .next) s) (length out₀)
+
+  -- it is answered and its line written
+  pub facing-wrote
+      : {t : Table} {r : Record} {out : List ℕ} {at to nth : ℕ} → Facing whole s out₀ end room t r out at to nth
+      → (o : Stepped) (n : ℕ) (out′ : List ℕ) → o ≡ answeredOn t r
+      → n ≡ fitted out to (lineFor nth (o .answer)) → out′ ≡ placed out to (lineFor nth (o .answer)) → length (lineFor nth (o .answer)) ≤ 89
+      → Going whole s out₀ end room (o .table) out′ at (to + n) (nth + 1)
+  facing-wrote {t} {r} {out} {at} {to} {nth} g o n out′ a len put-in short =
+      let same : lineFor nth (o .answer) ≡ line = ap (λ (z : Stepped). lineFor nth (z .answer)) a in
+      let few : length line ≤ 89 = rw same at short in
+      let more : 89 ≤ length out - to = more-room (length out - to) nth (g .goes) in
+      let fits : to + length line ≤ length out = omega (arith, g .ends) in
+      let wrote : n ≡ length line = len ∙ ap (fitted out to) same ∙ fitted-in out to line fits in
+      let into : out′ ≡ put out to line = put-in ∙ ap (placed out to) same ∙ placed-in out to line fits in
+      let long : length out′ ≡ length out = ap length into ∙ length-put out to line fits in
+      let left : length out′ - (to + n) ≡ (length out - to) - length line = omega arith in
+      let later-is : partFrom (o .table) (nth + 1) (drop at s) (length out′ - (to + n)) ≡ later = rw (left, a) refl in
+      record {
+        all = g .all;
+        free = g .free;
+        inside = g .inside;
+        ends = omega arith;
+        long = long ∙ g .long;
+        answer = rw (later-is, wrote) (g .answer);
+        bytes = rw (later-is, into)
+            (put-put out to (to + n) line (later .lines) (ap (λ (k : ℕ). to + k) wrote) (omega arith) ∙ g .bytes);
+      }
+    where
+      line : List ℕ
+      line = lineAt t r nth
+
+      later : Part
+      later = partAt t r nth (drop at s) (length out - to)
+
+  module _ {t : Table} {out : List ℕ} {at to nth : ℕ} (g : Going whole s out₀ end room t out at to nth) where
     -- the bytes from here to the end are all that are left
     rest-all : take (end - at) (drop at s) ≡ drop at s
     rest-all = take-all (end - at) (drop at s) (rw (length-drop, g .all) (omega arith))
@@ -143,8 +222,8 @@ module _ {t₀ : Table} {nth₀ : ℕ} {s out₀ : List ℕ} {end room : ℕ} wh
     -- what the run gives back here is what it promises
     abbrev Came : Type 0
     Came =
-        (record { number = 0; taken = at; written = to; next = nth; table = t } ≡ ranAs (partFrom t₀ nth₀ s (length out₀)))
-        × ((out ≡ put out₀ 0 (partFrom t₀ nth₀ s (length out₀) .lines)) × ((at ≤ length s) × (to ≤ length out₀)))
+        (record { number = 0; taken = at; written = to; next = nth; table = t } ≡ ranAs whole)
+        × ((out ≡ put out₀ 0 (whole .lines)) × ((at ≤ length s) × (to ≤ length out₀)))
 
     -- nothing more is taken
     going-stop : partFrom t nth (drop at s) (length out - to) ≡ noPart t nth
@@ -162,63 +241,81 @@ module _ {t₀ : Table} {nth₀ : ℕ} {s out₀ : List ℕ} {end room : ℕ} wh
         → Came
     going-full e = going-stop (part-full t nth (drop at s) (length out - to) (ap (λ (k : ℕ). isFull k nth) room-is ∙ e))
 
-    -- one record is taken, answered and written
-    module _ (r : Record) (o : Stepped) (n : ℕ) (out′ : List ℕ) where
-      pub going-on : isFull (room - to) nth ≡ false
-          → r ≡ recordOf (take (end - at) (drop at s))
-          → (r .next ≡ 0 → ⊥)
-          → o ≡ answeredOn t r
-          → length (lineFor nth (o .answer)) ≤ 89
-          → n ≡ fitted out to (lineFor nth (o .answer))
-          → out′ ≡ placed out to (lineFor nth (o .answer))
-          → Going t₀ nth₀ s out₀ end room (o .table) out′ (at + r .next) (to + n) (nth + 1)
-      going-on open-room e h a short len put-in =
-          let goes : isFull (length out - to) nth ≡ false = ap (λ (k : ℕ). isFull k nth) room-is ∙ open-room in
-          let read : r ≡ recordOf (drop at s) = e ∙ ap recordOf rest-all in
-          let whole : isCut (drop at s) ≡ false = whole-next (drop at s) (λ z. h (ap (λ (q : Record). q .next) read ∙ z)) in
-          let size : r .next ≤ length s - at = rw (read, ← length-drop at s) (next-inside (drop at s)) in
-          let more : 89 ≤ length out - to = ltb-false (length out - to) 89 (or-left (ltb (length out - to) 89) (leb 18446744073709551615 nth) goes) in
-          let fits : to + length line ≤ length out = omega (arith, g .ends) in
-          let wrote : n ≡ length line = len ∙ fitted-in out to line fits in
-          let into : out′ ≡ put out to line = put-in ∙ placed-in out to line fits in
-          let long : length out′ ≡ length out = ap length into ∙ length-put out to line fits in
-          let left : (length out - to) - length line ≡ length out′ - (to + n) = omega arith in
-          let behind : drop (r .next) (drop at s) ≡ drop (at + r .next) s = drop-drop (r .next) at s in
-          let number : suc nth ≡ nth + 1 = omega arith in
-          let taken : partFrom t nth (drop at s) (length out - to) ≡ onePart r line later =
-          rw (← left, ← behind, ← number, a, read) (part-taken t nth (drop at s) (length out - to) whole goes) in
-          record {
-            all = g .all;
-            free = g .free;
-            few = rw (a, answered-count t r) (g .few);
-            inside = omega (arith, g .inside);
-            ends = omega arith;
-            long = long ∙ g .long;
-            answer = ap₂ (λ (k l : ℕ). record { number = 0; taken = k; written = l; next = later .next; table = later .table })
-                (add-assoc at (r .next) (later .taken))
-                (ap (λ (k : ℕ). to + k + length (later .lines)) wrote ∙ add-assoc to (length line) (length (later .lines)) ∙ ap (λ (k : ℕ). to + k) (sym (length-append line (later .lines))))
-                ∙ ap (goneOn at to) (sym taken) ∙ g .answer;
-            bytes = ap (λ (d : List ℕ). put d (to + n) (later .lines)) into
-                ∙ put-put out to (to + n) line (later .lines) (ap (λ (k : ℕ). to + k) wrote) (omega arith)
-                ∙ ap (λ (p : Part). put out to (p .lines)) (sym taken) ∙ g .bytes;
-          }
-        where
-          line : List ℕ
-          line = lineFor nth (o .answer)
+    -- a whole record is read
+    pub going-read
+        : (r : Record) → isFull (room - to) nth ≡ false → r ≡ recordOf (take (end - at) (drop at s)) → (r .next ≡ 0 → ⊥)
+        → Facing whole s out₀ end room t r out (at + r .next) to nth
+    going-read r open-room e h =
+        let goes : isFull (length out - to) nth ≡ false = ap (λ (k : ℕ). isFull k nth) room-is ∙ open-room in
+        let read : r ≡ recordOf (drop at s) = e ∙ ap recordOf rest-all in
+        let whole-one : isCut (drop at s) ≡ false = whole-next (drop at s) (λ z. h (ap (λ (q : Record). q .next) read ∙ z)) in
+        let size : r .next ≤ length s - at = rw (read, ← length-drop at s) (next-inside (drop at s)) in
+        let behind : drop (r .next) (drop at s) ≡ drop (at + r .next) s = drop-drop (r .next) at s in
+        let number : suc nth ≡ nth + 1 = omega arith in
+        let taken : partFrom t nth (drop at s) (length out - to) ≡ onePart r line later =
+        rw (← behind, ← number, read) (part-taken t nth (drop at s) (length out - to) whole-one goes) in
+        record {
+          all = g .all;
+          free = g .free;
+          inside = omega (arith, g .inside);
+          ends = g .ends;
+          long = g .long;
+          goes = goes;
+          answer = ap₂ (λ (k l : ℕ). record { number = 0; taken = k; written = l; next = later .next; table = later .table })
+              (add-assoc at (r .next) (later .taken))
+              (add-assoc to (length line) (length (later .lines)) ∙ ap (λ (k : ℕ). to + k) (sym (length-append line (later .lines))))
+              ∙ ap (goneOn at to) (sym taken) ∙ g .answer;
+          bytes = ap (λ (p : Part). put out to (p .lines)) (sym taken) ∙ g .bytes;
+        }
+      where
+        line : List ℕ
+        line = lineAt t r nth
 
-          later : Part
-          later = partFrom (o .table) (nth + 1) (drop (at + r .next) s) (length out′ - (to + n))
+        later : Part
+        later = partAt t r nth (drop (at + r .next) s) (length out - to)
 
--- ---- the test before a run
+-- ---- a run: the test before it, and its first record
 
 module _ (t : Table) (nth : ℕ) (s out : List ℕ) {b : Bool} (e : b ≡ soundTable t) where
-  pub run-unsound : not b ≡ true
-      → (record { number = 1; taken = 0; written = 0; next = 0; table = t } ≡ ran t nth s (length out)) × ((out ≡ ranInto t nth s out) × ((0 ≤ length s) × (0 ≤ length out)))
+  -- what `run` promises
+  abbrev Kept-promise : Ran → List ℕ → Type 0
+  Kept-promise r out′ = (r ≡ ran t nth s (length out)) × ((out′ ≡ ranInto t nth s out) × ((r .taken ≤ length s) × (r .written ≤ length out)))
+
+  pub run-unsound : not b ≡ true → Kept-promise (record { number = 1; taken = 0; written = 0; next = 0; table = t }) out
   unfolding ran ranInto
   run-unsound h = rw (sym e ∙ not-true b h) (refl, (refl, (omega arith, omega arith)))
 
-  pub run-sound : not b ≡ false → {r : Ran} {out′ : List ℕ}
-      → (r ≡ ranAs (partFrom t nth s (length out))) × ((out′ ≡ put out 0 (partFrom t nth s (length out) .lines)) × ((r .taken ≤ length s) × (r .written ≤ length out)))
-      → (r ≡ ran t nth s (length out)) × ((out′ ≡ ranInto t nth s out) × ((r .taken ≤ length s) × (r .written ≤ length out)))
-  unfolding ran ranInto
-  run-sound h p = rw (sym e ∙ not-false b h) p
+  module _ (h : not b ≡ false) where
+    run-sound
+        : {r : Ran} {out′ : List ℕ} → r ≡ ranAs (partFrom t nth s (length out)) → out′ ≡ put out 0 (partFrom t nth s (length out) .lines)
+        → (r .taken ≤ length s) × (r .written ≤ length out) → Kept-promise r out′
+    unfolding ran ranInto
+    run-sound a p i = rw (sym e ∙ not-false b h) (a, (p, i))
+
+    -- no record is taken
+    run-none : partFrom t nth s (length out) ≡ noPart t nth → {r : Ran} → r ≡ ranAs (noPart t nth) → Kept-promise r out
+    run-none w {r} a =
+        run-sound (a ∙ ap ranAs (sym w)) (sym (put-none out 0) ∙ ap (λ (p : Part). put out 0 (p .lines)) (sym w)) (rw a (omega arith, omega arith))
+
+    pub run-full : isFull (length out) nth ≡ true → {r : Ran} → r ≡ ranAs (noPart t nth) → Kept-promise r out
+    run-full f = run-none (part-full t nth s (length out) f)
+
+    module _ {r₁ : Record} (read : r₁ ≡ recordOf s) where
+      pub run-cut : r₁ .next ≡ 0 → {r : Ran} → r ≡ ranAs (noPart t nth) → Kept-promise r out
+      run-cut z = run-none (part-cut t nth s (length out) (by-test (isCut s) (λ c. c) (λ f. absurd (let l = next-whole s f in let w : recordOf s .next ≡ 0 = ap (λ (x : Record). x .next) (sym read) ∙ z in let y : ⊥ = omega arith in y))))
+
+      -- the first record, and those behind it
+      pub run-on
+          : (r₁ .next ≡ 0 → ⊥) → {r : Ran} {out′ : List ℕ} → r ≡ ranAs (partBehind t nth r₁ (drop (r₁ .next) s) (length out))
+          → out′ ≡ put out 0 (partBehind t nth r₁ (drop (r₁ .next) s) (length out) .lines) → (r .taken ≤ length s) × (r .written ≤ length out) → Kept-promise r out′
+      run-on n a p i =
+          let w : partBehind t nth r₁ (drop (r₁ .next) s) (length out) ≡ partFrom t nth s (length out) =
+          rw (read, parted-whole s (whole-next s (λ z. n (ap (λ (x : Record). x .next) read ∙ z)))) refl in
+          run-sound (a ∙ ap ranAs w) (p ∙ ap (λ (q : Part). put out 0 (q .lines)) w) i
+
+-- a step answered as a record that stands alone
+pub alone-is
+    : (t : Table) (a : Step) (n : ℕ) {z : Ran} {w : Answer} → let r : Record = record { number = 0; next = n; step = a } in
+    z ≡ ranAs (partBehind t 0 r [] 89) → w ≡ answeredOn t r .answer → _≡_ {A = Stepped} (record { answer = w; table = z .table }) (advanced t a)
+unfolding partOf parted partedBy answeredOn
+alone-is t a n hz hw = rw (hz, hw) refl

@@ -2,15 +2,10 @@
 ghost use mathlib.Core.Path.{_≡_};
 ghost use Prim.Native.Nat.{_≤_};
 ghost use lib.ListN.{length};
-ghost use Rattle.kit.specs.Lists.{put, placed};
-ghost use Rattle.lines.specs.Lines.{fitted};
-ghost use Rattle.steps.specs.Night.{answeredOn, lineFor, isFull, partFrom, ran, ranAs, ranInto};
-use crate::answer::Answer;
-use crate::answer::Stepped;
-use crate::answer::refuse;
-use crate::step::advance;
-use lines::write_line;
-use record::Record;
+ghost use Rattle.steps.specs.Night.{noPart, ran, ranAs, ranInto};
+use crate::answering::answer_from;
+use crate::answering::bytes_in;
+use crate::answering::is_full;
 use record::read_record;
 use table::data::Table;
 use table::sound::sound;
@@ -25,95 +20,16 @@ pub struct Ran {
     pub table: Table,
 }
 
-// How many bytes a buffer has.
-fn bytes_in(b: &[u8]) -> usize
-    ensures { λ r. ⌜ r ≡ length (now (b .entry)) ⌝ }
+// No record is taken.
+fn take_none(table: Table, next: u64) -> Ran
+    ensures { λ r. ⌜ r ≡ ranAs (noPart table next) ⌝ }
 {
-    b.len()
-}
-
-// Whether there is no room for another line, or no number for another record.
-fn is_full(room: usize, nth: u64) -> bool
-    ensures { λ r. ⌜ r ≡ isFull room nth ⌝ }
-{
-    if room < 89 {
-        return true;
-    }
-    18446744073709551615 <= nth
-}
-
-// The answer to a record that was read.
-fn answer_record(t: Table, r: Record) -> Stepped
-    requires { ⌜ t .count ≤ 7 ⌝ }
-    ensures { λ s. ⌜ s ≡ answeredOn t r ⌝ }
-{
-    let number = r.number;
-    if number != 0 {
-        return Stepped {
-            answer: refuse(number),
-            table: t,
-        };
-    }
-    let a = r.step;
-    advance(t, a)
-}
-
-// The line of an answer, written at a place where it ends inside the buffer; its length, which is at most 89.
-fn write_answer(output: &mut [u8], at: usize, nth: u64, w: Answer) -> usize
-    ensures answer { λ r. ⌜ r ≡ fitted (now (output .entry)) at (lineFor nth w) ⌝ }
-    ensures bytes { λ _. ⌜ now (output .exit) ≡ placed (now (output .entry)) at (lineFor nth w) ⌝ }
-    ensures short { λ _. ⌜ length (lineFor nth w) ≤ 89 ⌝ }
-{
-    write_line(
-        output,
-        at,
-        nth,
-        w.number,
-        w.first,
-        w.second,
-        w.accepted,
-        w.rejected,
-    )
-}
-
-// Record after record of a sound table, which stays sound, while one is whole and there is room for its line.
-fn take_records(mut t: Table, nth: u64, input: &[u8], output: &mut [u8]) -> Ran
-    requires { ⌜ t .count ≤ 7 ⌝ }
-    ensures answer { λ r. ⌜ r ≡ ranAs (partFrom t nth (now (input .entry)) (length (now (output .entry)))) ⌝ }
-    ensures bytes { λ _. ⌜ now (output .exit) ≡ put (now (output .entry)) 0 (partFrom t nth (now (input .entry)) (length (now (output .entry))) .lines) ⌝ }
-    ensures inside { λ r. ⌜ (r .taken ≤ length (now (input .entry))) × (r .written ≤ length (now (output .entry))) ⌝ }
-{
-    let end = bytes_in(input);
-    let room = bytes_in(output);
-    let mut at: usize = 0;
-    let mut to: usize = 0;
-    let mut next = nth;
-    while !is_full(room - to, next) {
-        let r = read_record(&input[at..end]);
-        let size = r.next;
-        if size == 0 {
-            return Ran {
-                number: 0,
-                taken: at,
-                written: to,
-                next,
-                table: t,
-            };
-        }
-        let out = answer_record(t, r);
-        let w = out.answer;
-        to += write_answer(output, to, next, w);
-        at += size;
-        next += 1;
-        let u = out.table;
-        t = u;
-    }
     Ran {
         number: 0,
-        taken: at,
-        written: to,
+        taken: 0,
+        written: 0,
         next,
-        table: t,
+        table,
     }
 }
 
@@ -133,5 +49,15 @@ pub fn run(t: Table, nth: u64, input: &[u8], output: &mut [u8]) -> Ran
             table: t,
         };
     }
-    take_records(t, nth, input, output)
+    if is_full(bytes_in(output), nth) {
+        return take_none(t, nth);
+    }
+    let first = read_record(input);
+    let size = first.next;
+    if size == 0 {
+        return take_none(t, nth);
+    }
+    let out = answer_from(t, first, nth, input, output);
+    let r = out.ran;
+    r
 }

@@ -1,117 +1,15 @@
 // One step on a table.
 ghost use mathlib.Core.Path.{_≡_};
-ghost use Prim.Native.Nat.{_≤_};
-ghost use Rattle.steps.specs.Steps.{advanced, stepped};
+ghost use Rattle.steps.specs.Steps.{stepped};
 use crate::answer::Stepped;
 use crate::answer::refuse;
-use crate::begin::begin;
-use crate::messages::deliver;
-use crate::messages::drop;
-use crate::messages::tell;
-use crate::places::clamp;
-use crate::places::message_for;
-use crate::places::place_for;
-use crate::places::site_for;
-use crate::places::used_of;
-use crate::retire::forget;
-use crate::retire::retire;
-use crate::sites::down;
-use crate::sites::read;
-use crate::sites::up;
+use crate::answering::answer_from;
+use record::Record;
 use record::Step;
 use table::data::Table;
 use table::sound::sound;
-use vote::consider::is_open;
-use vote::data::Verdict;
-use vote::requests::heads_of;
-use walk::walking::resolve;
 
-// A step on a table that is sound: soundness is not tested again. It takes the pieces out, plans, and puts them back; only a verdict at a
-// site whose queue is not empty after it looks at all requests.
-pub(crate) fn advance(mut t: Table, a: Step) -> Stepped
-    requires { ⌜ t .count ≤ 7 ⌝ }
-    ensures { λ r. ⌜ r ≡ advanced t a ⌝ }
-{
-    let requests = t.requests;
-    let messages = t.messages;
-    let heads = heads_of(requests);
-    let used = used_of(messages);
-    let code = a.code;
-    let j = message_for(code, used, a.place);
-    let x = clamp(kit::index(j), 63);
-    let told = t.messages[x];
-    let k = site_for(code, a.site, told.to);
-    let p = place_for(code, heads, a.stamp, told.request);
-    let i = clamp(kit::index(p), 15);
-    let mut answer = refuse(2);
-    let mut due = Verdict::Open;
-    match code {
-        1 => {
-            let c = begin(t.count, heads, t.sites[k], p, t.requests[i], a);
-            let q = c.request;
-            let s = c.site;
-            t.requests[i] = q;
-            t.sites[k] = s;
-            answer = c.answer;
-            due = c.due;
-        }
-        2 => {
-            let c = tell(t.count, a.site, a.to, t.sites[k], p, j, told);
-            let m = c.message;
-            t.messages[x] = m;
-            answer = c.answer;
-        }
-        3 => {
-            let c = deliver(t.count, j, told, heads, t.sites[k], t.requests[i]);
-            let s = c.site;
-            t.sites[k] = s;
-            answer = c.answer;
-            due = c.due;
-        }
-        4 => {
-            let c = drop(j, told);
-            let lost = c.message;
-            t.messages[x] = lost;
-            answer = c.answer;
-        }
-        5 => {
-            let c = down(t.count, a.site, t.sites[k].up);
-            t.sites[k].up = c.up;
-            answer = c.answer;
-        }
-        6 => {
-            let c = up(t.count, a.site, t.sites[k].up);
-            t.sites[k].up = c.up;
-            answer = c.answer;
-        }
-        7 => {
-            let sites = t.sites;
-            let c = retire(t.count, sites, messages, p, t.requests[i]);
-            let q = c.request;
-            t.requests[i] = q;
-            for u in 0..c.forgetting {
-                let s = forget(t.sites[u], p);
-                t.sites[u] = s;
-            }
-            answer = c.answer;
-        }
-        8 => {
-            answer = read(t.count, a.site, t.sites[k], a.item);
-        }
-        0 | 9..=255 => {}
-    }
-    if !is_open(due) {
-        let rs = t.requests;
-        let out = resolve(rs, t.sites[k], t.count, k as u8, p, due);
-        let s = out.site;
-        t.sites[k] = s;
-        answer.accepted = out.accepted;
-        answer.rejected = out.rejected;
-    }
-    Stepped { answer, table: t }
-}
-
-// A step on any table: number 1 where it is not sound.
+// A step on any table: number 1 where it is not sound, else it is answered as a record that stands alone, whose line nobody reads.
 pub fn step(t: Table, a: Step) -> Stepped
     ensures { λ r. ⌜ r ≡ stepped t a ⌝ }
 {
@@ -121,5 +19,16 @@ pub fn step(t: Table, a: Step) -> Stepped
             table: t,
         };
     }
-    advance(t, a)
+    let nothing = [0u8; 1];
+    let mut line = [0u8; 89];
+    let alone = Record {
+        number: 0,
+        next: 0,
+        step: a,
+    };
+    let out = answer_from(t, alone, 0, &nothing[..0], &mut line);
+    let answer = out.last;
+    let ran = out.ran;
+    let table = ran.table;
+    Stepped { answer, table }
 }

@@ -1,4 +1,4 @@
--- `steps::run::write_answer` meets its contract.
+-- `steps::answering::write_answer` meets its contract.
 use borrow.Author.Needs.{needs}
 use native.Mathlib.Omega.{arith}
 use mathlib.Core.Path.{_≡_, ap, _∙_}
@@ -12,8 +12,8 @@ use Rattle.kit.specs.Lists.{placed}
 use Rattle.lines.specs.Lines.{lineOf, fitted}
 use Rattle.lines.proofs.Laws.{line-short}
 use Rattle.steps.proofs.Running.{abs-fits}
-use Rattle.steps.proofs.run.write_answer.Statement.{statement}
-use Rattle.steps.proofs.run.write_answer.Tie as tie
+use Rattle.steps.proofs.answering.write_answer.Statement.{statement}
+use Rattle.steps.proofs.answering.write_answer.Tie as tie
 
 write-line-requires : tie.Need-write-line-requires
 write-line-requires c κs = search needs

@@ -1,9 +1,9 @@
--- `steps::run::is_full` meets its contract.
+-- `steps::answering::is_full` meets its contract.
 use borrow.Author.Needs.{needs}
 use borrow.Author.Tests.{lt-ltb, le-ltb, le-leb, lt-leb}
 use mathlib.Core.Path.{_≡_, refl}
-use Rattle.steps.proofs.run.is_full.Statement.{statement}
-use Rattle.steps.proofs.run.is_full.Tie as tie
+use Rattle.steps.proofs.answering.is_full.Statement.{statement}
+use Rattle.steps.proofs.answering.is_full.Tie as tie
 
 returns : tie.Need-returns
 returns c = rw (lt-ltb _ _ (c .if1 .taken))
