@@ -6,13 +6,14 @@ use native.Mathlib.Omega.{arith}
 use borrow.Author.Tests.{eq-eqb, ne-eqb, leb-true, not-true, not-false}
 use lib.Dec.{eqb, leb}
 use Rattle.kit.proofs.Bools.{and-left, and-right, of-cond}
+use Rattle.plans.specs.Answers.{refusal}
+use Rattle.plans.specs.declared.answer.Answer.{Answer}
 use Rattle.record.specs.declared.Step.{Step}
 use Rattle.table.specs.Sound.{countRight, soundTable}
 use Rattle.table.specs.declared.data.Table.{Table}
-use Rattle.steps.specs.Answers.{Done, refusal, refusedAs}
+use Rattle.steps.specs.Answers.{Done, refusedAs}
 use Rattle.steps.specs.Numbers.{beginNumber, tellNumber, deliverNumber, dropNumber, downNumber, upNumber, retireNumber, readNumber}
 use Rattle.steps.specs.Steps.{unlessRefused, begun, entered, told, delivered, dropped, putUp, retired, readings, advanced, stepped}
-use Rattle.steps.specs.declared.answer.Answer.{Answer}
 use Rattle.steps.specs.declared.answer.Stepped.{Stepped}
 
 module _ (t : Table) (a : Step) {z : Stepped} where

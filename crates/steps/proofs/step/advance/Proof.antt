@@ -1,8 +1,8 @@
 -- `steps::step::advance` meets its contract: the pieces are taken out, planned and put back, by a law for each code.
 use Prim.Native.Nat.{_-_}
 use Rattle.steps.proofs.Arms.{Aimed, aim-is, begin-arm, tell-arm, deliver-arm, drop-arm, down-arm, up-arm, retire-arm, read-arm, zero-arm, none-arm, finish-left, finish-quiet}
-use Rattle.steps.proofs.Retiring.{Forgot, forgot-none, forgot-more, forgot-all, few-forget}
-use Rattle.steps.specs.Pieces.{finished}
+use Rattle.steps.proofs.Forgetting.{Forgot, forgot-none, forgot-more, forgot-all, few-forget}
+use Rattle.steps.specs.Finished.{finished}
 use Rattle.steps.specs.Steps.{advanced}
 use Rattle.kit.proofs.Listings.{length-mapped}
 use borrow.Author.Needs.{needs}
