@@ -6,6 +6,8 @@ use mathlib.Core.List.{List, [], _∷_, _++_, map}
 use mathlib.Core.Path.{_≡_, refl, ap}
 use Rattle.kit.specs.Lists.{listed, changed, without}
 use Rattle.kit.specs.Range.{any, all, first, largest, passing}
+use Rattle.plans.specs.Changes.{stored}
+use Rattle.plans.specs.declared.answer.Answer.{Answer}
 use Rattle.sets.specs.Sets.{member, meets, inside, size, ofItems}
 use Rattle.stamps.specs.Issue.{issued}
 use Rattle.stamps.specs.Stamps.{issuedForm, wellFormed, largestTime, nextTime, higher}
@@ -28,8 +30,7 @@ use Rattle.table.specs.declared.data.Table.{Table}
 use Rattle.table.proofs.FreshSound.{fresh-means, fresh-shaped}
 use Rattle.table.proofs.Meaning.{meant}
 use Rattle.steps.specs.Numbers.{freePlace, freeMessage, placeOf, cannotTell, noMessageAt, beginNumber, tellNumber, deliverNumber}
-use Rattle.steps.specs.Steps.{stepped, stored, entered, begun, told, delivered, advanced}
-use Rattle.steps.specs.declared.answer.Answer.{Answer}
+use Rattle.steps.specs.Steps.{stepped, entered, begun, told, delivered, advanced}
 use Rattle.steps.proofs.Upkeep.{Well, advanced-well}
 use Rattle.demand.specs.Examples.{Standing, evening, nightOf}
 use Rattle.demand.proofs.Examples.{sureAll, sure}

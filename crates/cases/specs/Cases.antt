@@ -5,6 +5,7 @@ use mathlib.Core.List.{List, [], _∷_, _++_, map}
 use mathlib.Core.Path.{_≡_}
 use lib.IntN.{ℤ, pos, negsuc}
 use lib.ListN.{getD, replicate}
+use Rattle.plans.specs.declared.answer.Answer.{Answer}
 use Rattle.record.specs.declared.Step.{Step}
 use Rattle.majority.specs.Majority.{majority, blocking}
 use Rattle.vote.specs.Data.{voteAt}
@@ -18,7 +19,6 @@ use Rattle.table.specs.Places.{siteAt}
 use Rattle.table.specs.declared.data.Table.{Table}
 use Rattle.steps.specs.Numbers.{placeOf}
 use Rattle.steps.specs.Steps.{stepped}
-use Rattle.steps.specs.declared.answer.Answer.{Answer}
 use Rattle.demand.specs.Examples.{nightOf, begins, tells, delivers}
 
 infix 5 _gives_

@@ -7,6 +7,7 @@ use mathlib.Core.Bool.{cond}
 use mathlib.Core.List.{List, [], _∷_, _++_}
 use mathlib.Core.Path.{_≡_, refl, ap, _∙_}
 use Rattle.demand.specs.Examples.{Standing, onward, afterAll, evening, nightOf, Small, alone, early, caughtUp, late, settledLate, rivals, Shown}
+use Rattle.plans.specs.Changes.{stored, forgotten}
 use Rattle.table.specs.Places.{siteAt, placeAt, markAt, verdictAt}
 use lib.ListN.{getD}
 use Rattle.demand.specs.Nights.{Night, fresh, after, happened}
@@ -29,7 +30,7 @@ use Rattle.walk.specs.Walking.{scan, walkUpTo, walked, accepts, rejects}
 use Rattle.table.specs.Fresh.{blankSite, blankMessage, blankTable, freshFor}
 use Rattle.table.specs.Sound.{setsAllowed, baseStampsAllowed, valuesAllowed, requestAllowed}
 use Rattle.steps.specs.Numbers.{freePlace, freeMessage, placeOf, cannotTell, noMessageAt, cannotRetire, beginNumber, tellNumber, deliverNumber, retireNumber}
-use Rattle.steps.specs.Steps.{stepped, stored, entered, begun, told, delivered, forgotten, retired, advanced}
+use Rattle.steps.specs.Steps.{stepped, entered, begun, told, delivered, retired, advanced}
 use Rattle.demand.specs.Nights.{allSaid, inBegin, inDeliver}
 use Rattle.record.specs.declared.Step.{Step}
 use Rattle.table.proofs.FreshSound.{fresh-means, fresh-shaped}

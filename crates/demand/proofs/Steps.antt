@@ -14,6 +14,7 @@ use Rattle.kit.proofs.Listings.{listed-at}
 use Rattle.ledger.specs.Ledger.{begin, Proper, History as LedgerHistory}
 use Rattle.ledger.specs.View.{Goes}
 use Rattle.ledger.proofs.Link.{goes-stay, goes-then}
+use Rattle.plans.specs.Changes.{stored, forgotten}
 use Rattle.record.specs.declared.Step.{Step}
 use Rattle.sets.specs.Sets.{member}
 use Rattle.stamps.specs.Issue.{issued}
@@ -33,7 +34,7 @@ use Rattle.vote.specs.declared.data.Site.{Site}
 use Rattle.upkeep.proofs.Begins.{begun-entered}
 use Rattle.steps.specs.Answers.{Done, refusedAs}
 use Rattle.steps.specs.Numbers.{freePlace, freeMessage, placeOf, beginNumber, tellNumber, deliverNumber, dropNumber, downNumber, upNumber, retireNumber, readNumber}
-use Rattle.steps.specs.Steps.{issueFor, entered, stored, begun, told, delivered, dropped, putUp, forgotten, retired, readings, unlessRefused, advanced, stepped}
+use Rattle.steps.specs.Steps.{issueFor, entered, begun, told, delivered, dropped, putUp, retired, readings, unlessRefused, advanced, stepped}
 use Rattle.steps.specs.declared.answer.Stepped.{Stepped}
 use Rattle.steps.proofs.Allowed.{site-index, free-place, free-message, named-place, message-there, may-begin, may-tell, may-deliver, may-drop, may-down, may-up, may-retire, given-of}
 use Rattle.steps.proofs.Upkeep.{Well}

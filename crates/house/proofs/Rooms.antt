@@ -12,7 +12,7 @@ use lib.Seq.{paste, paste-suc, take-all}
 use Rattle.kit.specs.Lists.{put, placed}
 use Rattle.kit.proofs.Bools.{by-le}
 use Rattle.kit.proofs.Puts.{put-none, placed-in, placed-out}
-use Rattle.steps.specs.Answers.{refusal}
+use Rattle.plans.specs.Answers.{refusal}
 use Rattle.steps.specs.Night.{lineFor, lastLine}
 use Rattle.house.specs.House.{roomAfter}
 

@@ -10,9 +10,9 @@ use lib.Seq.{take-all}
 use Rattle.kit.specs.Lists.{put, placed}
 use Rattle.kit.proofs.Bools.{clash, by-le}
 use Rattle.kit.proofs.Puts.{put-front, placed-in}
+use Rattle.plans.specs.Answers.{refusal}
 use Rattle.table.specs.Fresh.{freshFor}
 use Rattle.table.specs.declared.fresh.FreshTable.{FreshTable}
-use Rattle.steps.specs.Answers.{refusal}
 use Rattle.steps.specs.Night.{lineFor, linesFrom, nightOf}
 use Rattle.steps.proofs.Nights.{fresh-well}
 use Rattle.steps.proofs.Upkeep.{Well}

@@ -4,7 +4,7 @@ ghost use mathlib.Core.Path.{_≡_};
 ghost use Prim.Native.Nat.{_≤_};
 ghost use lib.ListN.{length};
 ghost use Rattle.kit.specs.Lists.{put, placed};
-ghost use Rattle.steps.specs.Answers.{refusal};
+ghost use Rattle.plans.specs.Answers.{refusal};
 ghost use Rattle.steps.specs.Night.{lineFor, lastLine, linesFrom, nightOf};
 ghost use Rattle.steps.proofs.Upkeep.{Well};
 ghost use Rattle.house.specs.House.{roomAfter, nightLength, nightPrinted, nightInto};

@@ -6,6 +6,7 @@ pub mod House
 pub mod Kit
 pub mod Lines
 pub mod Majority
+pub mod Plans
 pub mod Pool
 pub mod Readings
 pub mod Record

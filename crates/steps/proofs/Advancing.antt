@@ -9,6 +9,8 @@ use lib.ListN.{length, length-set}
 use Rattle.kit.proofs.Bools.{and-left, and-right, of-cond}
 use Rattle.kit.proofs.Changes.{length-changed}
 use Rattle.kit.specs.Lists.{changed}
+use Rattle.plans.specs.Answers.{refusal}
+use Rattle.plans.specs.declared.answer.Answer.{Answer}
 use Rattle.record.specs.declared.Step.{Step}
 use Rattle.table.specs.Places.{withSite, withSites, withRequest, withMessage}
 use Rattle.table.specs.Sound.{countRight, soundTable}
@@ -16,10 +18,9 @@ use Rattle.table.specs.declared.data.Message.{Message}
 use Rattle.table.specs.declared.data.Table.{Table}
 use Rattle.vote.specs.declared.data.Request.{Request}
 use Rattle.vote.specs.declared.data.Site.{Site}
-use Rattle.steps.specs.Answers.{Done, refusal, refusedAs}
+use Rattle.steps.specs.Answers.{Done, refusedAs}
 use Rattle.steps.specs.Numbers.{beginNumber, tellNumber, deliverNumber, dropNumber, downNumber, upNumber, retireNumber, readNumber}
 use Rattle.steps.specs.Steps.{unlessRefused, begun, entered, told, delivered, dropped, putUp, retired, readings, advanced, stepped}
-use Rattle.steps.specs.declared.answer.Answer.{Answer}
 use Rattle.steps.specs.declared.answer.Stepped.{Stepped}
 
 module _ (t : Table) (a : Step) {z : Stepped} where

@@ -13,6 +13,16 @@ use lib.Seq.{set-getD}
 use Rattle.kit.proofs.Bools.{by-test, by-lt, and-left}
 use Rattle.kit.proofs.Changes.{changed-none}
 use Rattle.kit.specs.Lists.{changed}
+use Rattle.plans.proofs.Found.{within-low, within-under}
+use Rattle.plans.specs.Answers.{refusal, results}
+use Rattle.plans.specs.Changes.{messageFrom, forgotten, stored}
+use Rattle.plans.specs.Pieces.{within, usedOf, messageFor, siteFor, placeFor, tellNumberOf, tellPlan, dropNumberOf, dropPlan, noMessageThere, requestNamed, deliverNumberOf, deliveredAlone, deliverPlan, issueAt, beginNumberOf, enteredAlone, beginPlan, downNumberOf, downPlan, upNumberOf, upPlan, retireNumberOf, retirePlan, readNumberOf, readPlan}
+use Rattle.plans.specs.declared.answer.Answer.{Answer}
+use Rattle.plans.specs.declared.begin.Entry.{Entry}
+use Rattle.plans.specs.declared.messages.Delivery.{Delivery}
+use Rattle.plans.specs.declared.messages.Post.{Post}
+use Rattle.plans.specs.declared.retire.Leaving.{Leaving}
+use Rattle.plans.specs.declared.sites.Turn.{Turn}
 use Rattle.record.specs.declared.Step.{Step}
 use Rattle.stamps.specs.Issue.{issueStamp, issueLast}
 use Rattle.table.specs.Fresh.{blankMessage}
@@ -28,20 +38,13 @@ use Rattle.vote.specs.declared.data.Verdict.the-variants as verdict
 use Rattle.walk.specs.Walking as walking
 use Rattle.walk.specs.Walking.{resolved, accepts, rejects}
 use Rattle.walk.specs.declared.walking.Settled.{Settled}
-use Rattle.steps.specs.Answers.{refusal, steppedAs}
+use Rattle.steps.specs.Answers.{steppedAs}
 use Rattle.steps.specs.Numbers.{noSuchSite, freePlace, freeMessage, placeOf, cannotTell, noMessageAt, cannotRetire, beginNumber, tellNumber, deliverNumber, dropNumber, downNumber, upNumber, retireNumber, readNumber}
-use Rattle.steps.specs.Pieces.{within, usedOf, messageFor, siteFor, placeFor, results, tellNumberOf, tellPlan, dropNumberOf, dropPlan, noMessageThere, requestNamed, deliverNumberOf, deliveredAlone, deliverPlan, issueAt, beginNumberOf, enteredAlone, beginPlan, downNumberOf, downPlan, upNumberOf, upPlan, retireNumberOf, retirePlan, readNumberOf, readPlan, finished}
-use Rattle.steps.specs.Steps.{messageFrom, forgotten, stored, issueFor, entered, begun, told, delivered, dropped, putUp, retired, readings, advanced}
-use Rattle.steps.specs.declared.answer.Answer.{Answer}
+use Rattle.steps.specs.Finished.{finished}
+use Rattle.steps.specs.Steps.{issueFor, entered, begun, told, delivered, dropped, putUp, retired, readings, advanced}
 use Rattle.steps.specs.declared.answer.Stepped.{Stepped}
-use Rattle.steps.specs.declared.begin.Entry.{Entry}
-use Rattle.steps.specs.declared.messages.Delivery.{Delivery}
-use Rattle.steps.specs.declared.messages.Post.{Post}
-use Rattle.steps.specs.declared.retire.Leaving.{Leaving}
-use Rattle.steps.specs.declared.sites.Turn.{Turn}
 use Rattle.steps.proofs.Advancing.{code-1, code-2, code-3, code-4, code-5, code-6, code-7, code-8, code-0, code-none}
 use Rattle.steps.proofs.Allowed.{site-index, free-place, free-message, message-there, may-begin, may-tell, may-deliver, may-drop, may-down, may-up, may-read, may-retire, named-place, MayTell, MayBegin, MayRetire}
-use Rattle.steps.proofs.Found.{within-low, within-under}
 use Rattle.steps.proofs.Settling.{received-is, settled-is, entered-is}
 use Rattle.steps.proofs.Summaries.{free-place-is, place-of-is, free-message-is, heads-set, used-set}
 

@@ -1,11 +1,5 @@
 -- The laws of the steps.
-mod Digits
-mod Found
-mod AtSites
-mod Sending
-mod AtHearing
-mod Retiring
-mod Beginning
+mod Forgetting
 mod Summaries
 mod Settling
 mod Advancing

@@ -17,6 +17,8 @@ use Rattle.kit.proofs.Bools.{by-test, of-cond, or-left, or-right}
 use Rattle.kit.proofs.Puts.{put-put, put-none, placed-in, length-put}
 use Rattle.lines.specs.Lines.{lineOf, fitted}
 use Rattle.lines.proofs.Writes.{fitted-in}
+use Rattle.plans.specs.Answers.{refusal}
+use Rattle.plans.specs.declared.answer.Answer.{Answer}
 use Rattle.record.specs.Records.{isCut, recordOf}
 use Rattle.record.specs.declared.Record.{Record}
 use Rattle.record.specs.declared.Step.{Step}
@@ -24,10 +26,8 @@ use Rattle.record.proofs.Laws.{next-cut, next-whole, whole-next, next-inside}
 use Rattle.record.proofs.Frames.{cut-header}
 use Rattle.table.specs.Sound.{soundTable}
 use Rattle.table.specs.declared.data.Table.{Table}
-use Rattle.steps.specs.Answers.{refusal}
 use Rattle.steps.specs.Steps.{advanced}
 use Rattle.steps.specs.Night.{Parted, before, partedBy, parted, answeredOn, lineFor, Part, noPart, onePart, isFull, partOf, partFrom, partBehind, ranAs, ran, ranInto}
-use Rattle.steps.specs.declared.answer.Answer.{Answer}
 use Rattle.steps.specs.declared.answer.Stepped.{Stepped}
 use Rattle.steps.specs.declared.run.Ran.{Ran}
 use Rattle.steps.proofs.Advancing.{Kept, kept-whole, advanced-kept}

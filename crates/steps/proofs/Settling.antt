@@ -12,6 +12,9 @@ use lib.IntN.{ℤ}
 use lib.ListN.{length, getD, set}
 use lib.Seq.{getD-set-same, set-set}
 use Rattle.kit.proofs.Bools.{by-test}
+use Rattle.plans.specs.Answers.{results}
+use Rattle.plans.specs.Pieces.{takenUpAlone, heardAlone, receivedAlone, settledAlone}
+use Rattle.plans.specs.declared.hearing.Heard.{Heard}
 use Rattle.table.specs.Places.{noSite, withSite, withRequest}
 use Rattle.table.specs.declared.data.Table.{Table}
 use Rattle.vote.specs.Consider.{considered, defers}
@@ -29,9 +32,8 @@ use Rattle.walk.specs.Walking.{Out, quiet, resolved, accepts, rejects}
 use Rattle.walk.specs.declared.walking.Settled.{Settled}
 use Rattle.steps.proofs.Summaries.{heads-set}
 use Rattle.steps.specs.Answers.{steppedAs}
-use Rattle.steps.specs.Pieces.{results, takenUpAlone, heardAlone, receivedAlone, settledAlone, finished}
+use Rattle.steps.specs.Finished.{finished}
 use Rattle.steps.specs.Steps.{doneAt}
-use Rattle.steps.specs.declared.hearing.Heard.{Heard}
 
 -- the verdict that is due falls, with all requests at hand
 abbrev pub ruledOut : ℕ → ℕ → List Request → ℕ → Heard → Out

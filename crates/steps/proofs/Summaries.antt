@@ -11,13 +11,13 @@ use lib.Seq.{getD-set-same, getD-set-other, ext-getD}
 use Rattle.kit.proofs.Listings.{length-listed, listed-at}
 use Rattle.kit.proofs.Ranges.{first-same}
 use Rattle.kit.specs.Lists.{listed}
+use Rattle.plans.specs.Pieces.{usedOf, freeIn, placeIn, freeMessageIn}
 use Rattle.table.specs.Places.{noMessage, placeAt, messageAt}
 use Rattle.table.specs.declared.data.Message.{Message}
 use Rattle.table.specs.declared.data.Table.{Table}
 use Rattle.vote.specs.Data.{noHead, noRequest, requestAt, headAt, headOf, headsOf}
 use Rattle.vote.specs.declared.data.Request.{Request}
 use Rattle.steps.specs.Numbers.{freePlace, freeMessage, placeOf}
-use Rattle.steps.specs.Pieces.{usedOf, freeIn, placeIn, freeMessageIn}
 
 -- ---- what is read off them
 

@@ -13,9 +13,8 @@ use Rattle.table.specs.declared.data.Table.{Table}
 use Rattle.vote.specs.Data.{headsOf}
 use Rattle.vote.specs.declared.data.Head.{Head}
 use Rattle.steps.specs.Night.{answeredOn, lineFor, Part, isFull, partBehind, ranAs, stoppedAt}
-use Rattle.steps.specs.Pieces.{usedOf, finished}
-use Rattle.steps.specs.Steps.{advanced}
-use Rattle.steps.specs.declared.answer.Answer.{Answer}
+use Rattle.plans.specs.Pieces.{usedOf}
+use Rattle.plans.specs.declared.answer.Answer.{Answer}
 use Rattle.steps.specs.declared.answer.Stepped.{Stepped}
 use Rattle.steps.specs.declared.answering.Answered.{Answered}
 use Rattle.steps.proofs.Advancing.{Kept}

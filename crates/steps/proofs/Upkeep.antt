@@ -6,6 +6,7 @@ use native.Mathlib.Omega.{arith}
 use borrow.Author.Tests.{eqb-true}
 use lib.Dec.{eqb}
 use Rattle.kit.proofs.Bools.{of-cond, clash}
+use Rattle.plans.specs.Changes.{stored, forgotten}
 use Rattle.record.specs.declared.Step.{Step}
 use Rattle.table.specs.Meaning.{ShapedTable, Sound}
 use Rattle.table.specs.Places.{siteAt, messageAt, placeAt}
@@ -17,7 +18,7 @@ use Rattle.upkeep.proofs.Changing.{dropped-sound, told-sound, put-up-sound, ret
 use Rattle.upkeep.proofs.Kept.{delivered-sound}
 use Rattle.steps.specs.Answers.{Done, steppedAs, refusedAs}
 use Rattle.steps.specs.Numbers.{freePlace, freeMessage, placeOf, beginNumber, tellNumber, deliverNumber, dropNumber, downNumber, upNumber, retireNumber, readNumber}
-use Rattle.steps.specs.Steps.{issueFor, entered, stored, begun, told, delivered, dropped, putUp, forgotten, retired, readings, unlessRefused, advanced, stepped}
+use Rattle.steps.specs.Steps.{issueFor, entered, begun, told, delivered, dropped, putUp, retired, readings, unlessRefused, advanced, stepped}
 use Rattle.steps.specs.declared.answer.Stepped.{Stepped}
 use Rattle.steps.proofs.Allowed.{site-index, free-place, free-message, named-place, message-there, MayBegin, may-begin, MayTell, may-tell, may-deliver, may-drop, may-down, may-up, MayRetire, may-retire, given-of}
 

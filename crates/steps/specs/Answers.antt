@@ -1,10 +1,11 @@
 -- What a step gives back: document 01's number, the two results, how many requests it accepted and rejected at its site.
 use Prim.Native.Nat.{ℕ}
 use mathlib.Core.List.{List}
-use lib.IntN.{ℤ, pos}
+use lib.IntN.{ℤ}
+use Rattle.plans.specs.Answers.{refusal}
+use Rattle.plans.specs.declared.answer.Answer.{Answer}
 use Rattle.table.specs.declared.data.Table.{Table}
 use Rattle.walk.specs.Walking.{Said, accepts, rejects}
-use Rattle.steps.specs.declared.answer.Answer.{Answer}
 use Rattle.steps.specs.declared.answer.Stepped.{Stepped}
 
 -- a step carried out: the table after it, the two results, and what its site said, in the order in which it fell
@@ -17,10 +18,6 @@ pub record Done : Type 0 where
 -- its answer: number 0, the results, and the counts read off the log
 abbrev pub answerOf : Done → Answer
 answerOf d = record { number = 0; first = d .first; second = d .second; accepted = accepts (d .log); rejected = rejects (d .log) }
-
--- "Each returns zeros beside it and changes nothing."
-abbrev pub refusal : ℕ → Answer
-refusal number = record { number = number; first = pos 0; second = 0; accepted = 0; rejected = 0 }
 
 abbrev pub steppedAs : Done → Stepped
 steppedAs d = record { answer = answerOf d; table = d .table }

@@ -1,6 +1,6 @@
--- What the contracts of `steps` cite: document 01, "Steps" and "Numbers given back", on the whole table; and each step on its pieces.
+-- What the contracts of `steps` cite: document 01, "Steps" and "Numbers given back", on the whole table.
 pub mod Answers
 pub mod Numbers
 pub mod Steps
 pub mod Night
-pub mod Pieces
+pub mod Finished

@@ -7,15 +7,16 @@ use lib.Dec.{eqb, leb, ltb}
 use lib.ListN.{length, drop}
 use Rattle.kit.specs.Lists.{put}
 use Rattle.lines.specs.Lines.{lineOf}
+use Rattle.plans.specs.Answers.{refusal}
+use Rattle.plans.specs.declared.answer.Answer.{Answer}
 use Rattle.record.specs.Records.{isCut, recordOf}
 use Rattle.record.specs.declared.Record.{Record}
 use Rattle.record.specs.declared.Step.{Step}
 use Rattle.table.specs.Fresh.{freshFor}
 use Rattle.table.specs.Sound.{soundTable}
 use Rattle.table.specs.declared.data.Table.{Table}
-use Rattle.steps.specs.Answers.{refusal, refusedAs}
+use Rattle.steps.specs.Answers.{refusedAs}
 use Rattle.steps.specs.Steps.{advanced, stepped}
-use Rattle.steps.specs.declared.answer.Answer.{Answer}
 use Rattle.steps.specs.declared.answer.Stepped.{Stepped}
 use Rattle.steps.specs.declared.answering.Answered.{Answered}
 use Rattle.steps.specs.declared.run.Ran.{Ran}

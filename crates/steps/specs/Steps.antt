@@ -4,10 +4,10 @@ use mathlib.Core.Bool.{Bool, true, false, cond}
 use mathlib.Core.List.{[]}
 use lib.Dec.{eqb}
 use lib.IntN.{ℤ, pos}
-use lib.ListN.{getD, set}
-use Rattle.kit.specs.Lists.{listed, changed}
+use lib.ListN.{getD}
+use Rattle.kit.specs.Lists.{changed}
+use Rattle.plans.specs.Changes.{stored, messageFrom, forgotten}
 use Rattle.record.specs.declared.Step.{Step}
-use Rattle.sets.specs.Sets.{member}
 use Rattle.stamps.specs.Issue.{issued, issueStamp, issueLast}
 use Rattle.stamps.specs.declared.Issue.{Issue}
 use Rattle.table.specs.Fresh.{blankMessage}
@@ -15,9 +15,7 @@ use Rattle.table.specs.Places.{siteAt, messageAt, withSite, withSites, withRequ
 use Rattle.table.specs.Sound.{soundTable}
 use Rattle.table.specs.declared.data.Message.{Message}
 use Rattle.table.specs.declared.data.Table.{Table}
-use Rattle.vote.specs.Data.{isOpen, noVote, blankRequest, voteAt, withLast, withUp, withVotes, withKnown}
-use Rattle.vote.specs.Voters.{votersOf, clearVoters, noRow}
-use Rattle.vote.specs.declared.data.Request.{Request}
+use Rattle.vote.specs.Data.{blankRequest, withLast, withUp}
 use Rattle.vote.specs.declared.data.Site.{Site}
 use Rattle.walk.specs.Hearing.{takenUp, received}
 use Rattle.walk.specs.Walking.{Out}
@@ -34,16 +32,6 @@ abbrev pub doneQuietly : ℤ → ℕ → Table → Done
 doneQuietly first second t = record { table = t; first = first; second = second; log = [] }
 
 -- ---- 1 begin
-
--- "Numbers given for other items are not looked at and are stored as 0."
-unfoldable pub stored : Step → ℕ → Request
-stored a stamp = record {
-  stamp = stamp;
-  base = a .base;
-  update = a .update;
-  stamps = listed 24 (λ i. cond (member (a .base) i) (getD (a .stamps) i 0) 0);
-  values = listed 24 (λ i. cond (member (a .update) i) (getD (a .values) i (pos 0)) (pos 0));
-}
 
 -- the stamp that the beginning site issues
 abbrev pub issueFor : Table → Step → Issue
@@ -63,18 +51,6 @@ begun t a =
     (entered t a)
 
 -- ---- 2 tell
-
--- "the teller's known voters while open, else its verdict"
-abbrev pub messageFrom : Site → ℕ → ℕ → ℕ → Message
-messageFrom s p from to = record {
-  used = true;
-  request = p;
-  from = from;
-  to = to;
-  verdict = voteAt (s .votes) p .verdict;
-  oks = cond (isOpen (voteAt (s .votes) p .verdict)) (votersOf (s .oks) p) noRow;
-  others = cond (isOpen (voteAt (s .votes) p .verdict)) (votersOf (s .others) p) noRow;
-}
 
 -- "Tell puts a message in the lowest free place"
 unfoldable pub told : Table → Step → Done
@@ -105,10 +81,6 @@ unfoldable pub putUp : Bool → Table → Step → Done
 putUp up t a = doneQuietly (pos 0) 0 (withSite (a .site - 1) (withUp up (siteAt t (a .site - 1))) t)
 
 -- ---- 7 retire
-
--- a site that holds nothing of place p any more
-unfoldable pub forgotten : ℕ → ℕ → Site → Site
-forgotten p k s = withVotes (set (s .votes) p noVote) (withKnown (clearVoters (s .oks) p) (clearVoters (s .others) p) s)
 
 -- "Retire frees the request's place"
 unfoldable pub retired : Table → Step → Done

@@ -2,8 +2,8 @@
 ghost use mathlib.Core.Path.{_≡_};
 ghost use Rattle.steps.specs.Steps.{stepped};
 use crate::answer::Stepped;
-use crate::answer::refuse;
 use crate::answering::answer_from;
+use plans::answer::refuse;
 use record::Record;
 use record::Step;
 use table::data::Table;

@@ -13,9 +13,9 @@ use Rattle.table.specs.Places.{withSites, withRequest}
 use Rattle.table.specs.declared.data.Table.{Table}
 use Rattle.vote.specs.Data.{headsOf}
 use Rattle.vote.specs.declared.data.Site.{Site}
-use Rattle.steps.specs.Pieces.{usedOf}
+use Rattle.plans.specs.Pieces.{usedOf}
 use Rattle.steps.proofs.Arms.{Held, Aimed, aim-is, PutBack, put-site, put-request, put-message, begin-arm, tell-arm, deliver-arm, drop-arm, down-arm, up-arm, retire-arm, read-arm, zero-arm, none-arm, finish-left, finish-quiet}
-use Rattle.steps.proofs.Retiring.{few-forget}
+use Rattle.steps.proofs.Forgetting.{few-forget}
 use Rattle.steps.proofs.Running.{number-left, answered-refused, answered-step}
 use Rattle.steps.proofs.Turning.{Reply, Turning, Turned, turning-start, turning-wrote, turned-full, turned-cut, turned-read}
 use Rattle.steps.proofs.answering.answer_from.Statement.{statement}

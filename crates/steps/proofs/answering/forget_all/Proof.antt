@@ -1,7 +1,7 @@
 -- `steps::answering::forget_all` meets its contract: after each turn one site more has forgotten.
 use Prim.Native.Nat.{_-_}
 use borrow.Author.Needs.{needs}
-use Rattle.steps.proofs.Retiring.{Forgot, forgot-none, forgot-more, forgot-all}
+use Rattle.steps.proofs.Forgetting.{Forgot, forgot-none, forgot-more, forgot-all}
 use native.Mathlib.Omega.{arith}
 use Rattle.steps.proofs.answering.forget_all.Statement.{statement}
 use Rattle.steps.proofs.answering.forget_all.Tie as tie

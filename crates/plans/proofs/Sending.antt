@@ -1,0 +1,146 @@
+-- Tell, deliver and drop, over the values that the code has at hand: a law for each way through a step.
+use Prim.Native.Nat.{ℕ, _-_, _^_, _<_, _≤_}
+use mathlib.Core.Bool.{Bool, true, false, not, _&&_, _||_, cond}
+use mathlib.Core.List.{List}
+use mathlib.Core.Path.{_≡_}
+use native.Mathlib.Omega.{arith}
+use borrow.Author.Tests.{eq-eqb, ne-eqb, lt-ltb, le-ltb}
+use lib.Dec.{leb, ltb}
+use lib.IntN.{pos}
+use mir.Facts.{toZ-pos}
+use mir.Syntax.{w64}
+use mir.Val.{toZ}
+use Rattle.table.specs.Fresh.{blankMessage}
+use Rattle.table.specs.declared.data.Message.{Message}
+use Rattle.vote.specs.Data.{isOk, isOther, isOpen, voteAt, blankRequest}
+use Rattle.vote.specs.Voters.{votersOf, noRow}
+use Rattle.vote.specs.declared.data.Head.{Head}
+use Rattle.vote.specs.declared.data.Request.{Request}
+use Rattle.vote.specs.declared.data.Site.{Site}
+use Rattle.vote.specs.declared.data.Vote.{Vote}
+use Rattle.plans.specs.Answers.{results}
+use Rattle.plans.specs.Pieces.{postedAs, tellNumberOf, tellPlan, dropNumberOf, dropPlan, keptAs, receivedAlone, settledAlone, deliverNumberOf, deliveredAlone, deliverPlan}
+use Rattle.plans.specs.Changes.{messageFrom}
+use Rattle.plans.specs.declared.answer.Answer.{Answer}
+use Rattle.plans.specs.declared.hearing.Heard.{Heard}
+use Rattle.plans.specs.declared.hearing.Ruling.{Ruling}
+use Rattle.plans.specs.declared.messages.Delivery.{Delivery}
+use Rattle.plans.specs.declared.messages.Post.{Post}
+
+-- ---- what is told
+
+pub told-open : {b : Bool} {x y : List Bool} (z : List Bool) → b ≡ true → x ≡ y → x ≡ cond b y z
+told-open z t h = rw t h
+
+pub told-judged : {b : Bool} {x z : List Bool} (y : List Bool) → b ≡ false → x ≡ z → x ≡ cond b y z
+told-judged y t h = rw t h
+
+pub message-is
+    : (s : Site) (p from to : ℕ) {v : Vote} {b : Bool} {oks others : List Bool} → v ≡ voteAt (s .votes) p → b ≡ isOpen (v .verdict)
+    → oks ≡ cond b (votersOf (s .oks) p) noRow → others ≡ cond b (votersOf (s .others) p) noRow
+    → _≡_ {A = Message} (record { used = true; request = p; from = from; to = to; verdict = v .verdict; oks = oks; others = others }) (messageFrom s p from to)
+message-is s p from to hv hb ho hx = rw (ho, hx, hb, hv)
+
+-- ---- tell
+
+module _ (n from to : ℕ) (s : Site) (p j : ℕ) (m : Message) {b : Bool} (h : b ≡ (leb 1 from && leb from n)) where
+  pub tell-from : {z : Post} → not b ≡ true → z ≡ postedAs 3 m → z ≡ tellPlan n from to s p j m
+  unfolding tellPlan tellNumberOf
+  tell-from t r = rw (← h, t) r
+
+  module _ (t : not b ≡ false) {c : Bool} (g : c ≡ (leb 1 to && leb to n)) where
+    pub tell-to : {z : Post} → not c ≡ true → z ≡ postedAs 3 m → z ≡ tellPlan n from to s p j m
+    unfolding tellPlan tellNumberOf
+    tell-to u r = rw (← h, t, ← g, u) r
+
+    module _ (u : not c ≡ false) where
+      pub tell-down : {z : Post} → not (s .up) ≡ true → z ≡ postedAs 4 m → z ≡ tellPlan n from to s p j m
+      unfolding tellPlan tellNumberOf
+      tell-down d r = rw (← h, t, ← g, u, d) r
+
+      module _ (d : not (s .up) ≡ false) where
+        pub tell-unknown : {z : Post} → p ≡ 16 → z ≡ postedAs 10 m → z ≡ tellPlan n from to s p j m
+        unfolding tellPlan tellNumberOf
+        tell-unknown e r = rw (← h, t, ← g, u, d, eq-eqb p 16 e) r
+
+        module _ (e : p ≡ 16 → ⊥) {v : Vote} (hv : v ≡ voteAt (s .votes) p) {w : Bool} (k : w ≡ ((isOk (v .mark) || isOther (v .mark)) || not (isOpen (v .verdict)))) where
+          pub tell-wordless : {z : Post} → not w ≡ true → z ≡ postedAs 11 m → z ≡ tellPlan n from to s p j m
+          unfolding tellPlan tellNumberOf
+          tell-wordless q r = rw (← h, t, ← g, u, d, ne-eqb p 16 e, ← hv, ← k, q) r
+
+          module _ (q : not w ≡ false) where
+            pub tell-self : {z : Post} → from ≡ to → z ≡ postedAs 11 m → z ≡ tellPlan n from to s p j m
+            unfolding tellPlan tellNumberOf
+            tell-self o r = rw (← h, t, ← g, u, d, ne-eqb p 16 e, ← hv, ← k, q, eq-eqb from to o) r
+
+            module _ (o : from ≡ to → ⊥) where
+              pub tell-full : {z : Post} → j ≡ 64 → z ≡ postedAs 12 m → z ≡ tellPlan n from to s p j m
+              unfolding tellPlan tellNumberOf
+              tell-full f r = rw (← h, t, ← g, u, d, ne-eqb p 16 e, ← hv, ← k, q, ne-eqb from to o, eq-eqb j 64 f) r
+
+              -- the number is 0
+              tell-allowed : (j ≡ 64 → ⊥) → tellNumberOf n from to s p j ≡ 0
+              unfolding tellNumberOf
+              tell-allowed f = rw (← h, t, ← g, u, d, ne-eqb p 16 e, ← hv, ← k, q, ne-eqb from to o, ne-eqb j 64 f)
+
+              pub tell-done
+                  : {a : Answer} {x : Message} → (j ≡ 64 → ⊥) → j < 256 → a ≡ results (toZ w64 j) 0 0 0 → x ≡ messageFrom s p (from - 1) (to - 1)
+                  → _≡_ {A = Post} (record { answer = a; message = x }) (tellPlan n from to s p j m)
+              unfolding tellPlan
+              tell-done f l ha hx = let i : j < 2 ^ 63 = omega arith in rw (tell-allowed f, ha, hx, toZ-pos w64 i)
+
+-- ---- deliver and drop
+
+below-64 : {j : ℕ} → j ≤ 63 → j < 64
+below-64 l = omega arith
+
+below-7 : {j : ℕ} → j ≤ 6 → j < 7
+below-7 l = omega arith
+
+module _ (j : ℕ) (m : Message) where
+  pub drop-out : {z : Post} → 63 < j → z ≡ postedAs 13 m → z ≡ dropPlan j m
+  unfolding dropPlan dropNumberOf
+  drop-out l r = rw (le-ltb j 64 l) r
+
+  pub drop-unused : {z : Post} → j ≤ 63 → not (m .used) ≡ true → z ≡ postedAs 13 m → z ≡ dropPlan j m
+  unfolding dropPlan dropNumberOf
+  drop-unused l u r = rw (lt-ltb j 64 (below-64 l), u) r
+
+  pub drop-done
+      : {a : Answer} {x : Message} → j ≤ 63 → not (m .used) ≡ false → a ≡ results (pos 0) 0 0 0 → x ≡ blankMessage
+      → _≡_ {A = Post} (record { answer = a; message = x }) (dropPlan j m)
+  unfolding dropPlan dropNumberOf
+  drop-done l u ha hx = rw (lt-ltb j 64 (below-64 l), u, ha, hx)
+
+pub request-there : (p : ℕ) (q : Request) → p ≤ 15 → q ≡ cond (ltb p 16) q blankRequest
+request-there p q h = let l : p < 16 = omega arith in rw (lt-ltb p 16 l)
+
+pub request-none : (p : ℕ) (q : Request) {r : Request} → 15 < p → r ≡ blankRequest → r ≡ cond (ltb p 16) q blankRequest
+request-none p q h e = rw (le-ltb p 16 h) e
+
+module _ (n j : ℕ) (m : Message) (heads : List Head) (s : Site) (q : Request) where
+  pub deliver-out : {z : Delivery} → 63 < j → z ≡ keptAs 13 s → z ≡ deliverPlan n j m heads s q
+  unfolding deliverPlan deliverNumberOf
+  deliver-out l r = rw (le-ltb j 64 l) r
+
+  module _ (l : j ≤ 63) where
+    pub deliver-unused : {z : Delivery} → not (m .used) ≡ true → z ≡ keptAs 13 s → z ≡ deliverPlan n j m heads s q
+    unfolding deliverPlan deliverNumberOf
+    deliver-unused u r = rw (lt-ltb j 64 (below-64 l), u) r
+
+    module _ (u : not (m .used) ≡ false) where
+      pub deliver-nobody : {z : Delivery} → 6 < m .to → z ≡ keptAs 4 s → z ≡ deliverPlan n j m heads s q
+      unfolding deliverPlan deliverNumberOf
+      deliver-nobody o r = rw (lt-ltb j 64 (below-64 l), u, le-ltb (m .to) 7 o) r
+
+      module _ (o : m .to ≤ 6) where
+        pub deliver-down : {z : Delivery} → not (s .up) ≡ true → z ≡ keptAs 4 s → z ≡ deliverPlan n j m heads s q
+        unfolding deliverPlan deliverNumberOf
+        deliver-down d r = rw (lt-ltb j 64 (below-64 l), u, lt-ltb (m .to) 7 (below-7 o), d) r
+
+        pub deliver-done
+            : {named : Request} {h : Heard} {r : Ruling} → not (s .up) ≡ false → named ≡ cond (ltb (m .request) 16) q blankRequest
+            → h ≡ receivedAlone n (m .to) heads s (m .request) named (m .verdict) (m .oks) (m .others) → r ≡ settledAlone h (m .request) named
+            → _≡_ {A = Delivery} (record { answer = results (pos 0) 0 (r .accepted) (r .rejected); site = r .site; due = r .due }) (deliverPlan n j m heads s q)
+        unfolding deliverPlan deliverNumberOf deliveredAlone
+        deliver-done d hq hh hr = rw (lt-ltb j 64 (below-64 l), u, lt-ltb (m .to) 7 (below-7 o), d, hr, hh, hq)
