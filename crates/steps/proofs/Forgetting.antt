@@ -11,8 +11,9 @@ use Rattle.kit.specs.Lists.{changed}
 use Rattle.plans.specs.Changes.{forgotten}
 use Rattle.plans.specs.Pieces.{retireNumberOf, retirePlan}
 use Rattle.plans.specs.declared.retire.Leaving.{Leaving}
-use Rattle.table.specs.Places.{noSite}
+use Rattle.table.specs.Places.{noSite, withSites}
 use Rattle.table.specs.declared.data.Message.{Message}
+use Rattle.table.specs.declared.data.Table.{Table}
 use Rattle.vote.specs.declared.data.Request.{Request}
 use Rattle.vote.specs.declared.data.Site.{Site}
 
@@ -46,3 +47,7 @@ forgot-more {p} {n} {sites} {k} {now} {s} f l e = record {
 
 pub forgot-all : {p n : ℕ} {sites : List Site} {k : ℕ} {now : List Site} → Forgot p n sites k now → n ≤ k → now ≡ changed n (forgotten p) sites
 forgot-all {p} {n} {sites} {k} {now} f l = let e : n ≡ k = omega (arith, f .in-range) in rw e (f .so-far)
+
+-- none is to forget
+pub forgot-nothing : (p : ℕ) {n : ℕ} (t : Table) → n ≡ 0 → t ≡ withSites (changed n (forgotten p) (t .sites)) t
+forgot-nothing p t e = rw (e, changed-none (forgotten p) (t .sites)) refl

@@ -194,9 +194,11 @@ pub(crate) fn answer_from(
                     let q = c.request;
                     t.requests[i] = q;
                     heads[i] = head_of(q);
-                    let later = forget_all(sites, c.forgetting, p);
-                    t.sites = later;
                     answer = c.answer;
+                    if c.forgetting != 0 {
+                        let later = forget_all(sites, c.forgetting, p);
+                        t.sites = later;
+                    }
                 }
                 8 => {
                     answer = read(t.count, a.site, t.sites[k], a.item);

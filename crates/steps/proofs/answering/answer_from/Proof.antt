@@ -15,7 +15,7 @@ use Rattle.vote.specs.Data.{headsOf}
 use Rattle.vote.specs.declared.data.Site.{Site}
 use Rattle.plans.specs.Pieces.{usedOf}
 use Rattle.steps.proofs.Arms.{Held, Aimed, aim-is, PutBack, put-site, put-request, put-message, begin-arm, tell-arm, deliver-arm, drop-arm, down-arm, up-arm, retire-arm, read-arm, zero-arm, none-arm, finish-left, finish-quiet}
-use Rattle.steps.proofs.Forgetting.{few-forget}
+use Rattle.steps.proofs.Forgetting.{few-forget, forgot-nothing}
 use Rattle.steps.proofs.Running.{number-left, answered-refused, answered-step}
 use Rattle.steps.proofs.Turning.{Reply, Turning, Turned, turning-start, turning-wrote, turned-full, turned-cut, turned-read}
 use Rattle.steps.proofs.answering.answer_from.Statement.{statement}
@@ -56,14 +56,15 @@ stands c =
     (⊎-elim (λ w. put-message h (drop-arm h (w .0 .keys4) (w .1 .ensures) (w .4) (w .7) (w .8)) (w .1 .result .message) (ap (λ (u : Table). u .requests) (w .4)) (ap (λ (u : Table). u .messages) (w .4)) (w .5) (w .6))
     (⊎-elim (λ w. put-site h (down-arm h (w .0 .keys5) (w .1 .ensures) (w .4) (w .7) (w .8)) (ap (λ (u : Table). u .requests) (w .4)) (ap (λ (u : Table). u .messages) (w .4)) (w .5) (w .6))
     (⊎-elim (λ w. put-site h (up-arm h (w .0 .keys6) (w .1 .ensures) (w .4) (w .7) (w .8)) (ap (λ (u : Table). u .requests) (w .4)) (ap (λ (u : Table). u .messages) (w .4)) (w .5) (w .6))
-    (⊎-elim (λ w. put-request h (retire-arm h (w .0 .keys7) (w .4 .ensures) (w .9 ∙ ap (λ (l : List Site). withSites l (withRequest (c .before .clamp2 .result) (w .4 .result .request) (c .before .before .before .before .before .before .before .before .before .before .before .before .loop .t))) (w .7 .ensures)) (w .12) (w .13)) (w .4 .result .request) (ap (λ (u : Table). u .requests) (w .9)) (ap (λ (u : Table). u .messages) (w .9)) (w .6 .ensures) (w .10) (w .11))
+    (⊎-elim (λ w. put-request h (retire-arm h (w .0 .keys7) (w .4 .ensures) (w .11 ∙ ap (λ (l : List Site). withSites l (withRequest (c .before .clamp2 .result) (w .4 .result .request) (c .before .before .before .before .before .before .before .before .before .before .before .before .loop .t))) (w .10 .ensures)) (w .14) (w .15)) (w .4 .result .request) (ap (λ (u : Table). u .requests) (w .11)) (ap (λ (u : Table). u .messages) (w .11)) (w .6 .ensures) (w .12) (w .13))
+    (⊎-elim (λ w. put-request h (retire-arm h (w .0 .keys7) (w .4 .ensures) (w .10 ∙ forgot-nothing _ _ (w .9 .left)) (w .13) (w .14)) (w .4 .result .request) (ap (λ (u : Table). u .requests) (w .10)) (ap (λ (u : Table). u .messages) (w .10)) (w .6 .ensures) (w .11) (w .12))
     (⊎-elim (λ w. put-site h (read-arm h (w .0 .keys8) (w .2 .ensures) (w .3) (w .6) (w .7)) (ap (λ (u : Table). u .requests) (w .3)) (ap (λ (u : Table). u .messages) (w .3)) (w .4) (w .5))
     (λ w. put-site h (⊎-elim (λ z. zero-arm h (z .keys9) (w .2) (w .5 ∙ w .1 .ensures) (w .6))
     (λ z. let r = z .rest in
     none-arm h (r .0 .0 .0 .0 .0 .0 .0 .0 .1) (r .0 .0 .0 .0 .0 .0 .0 .1) (r .0 .0 .0 .0 .0 .0 .1) (r .0 .0 .0 .0 .0 .1) (r .0 .0 .0 .0 .1) (r .0 .0 .0 .1) (r .0 .0 .1) (r .0 .1)
     (w .2) (w .5 ∙ w .1 .ensures) (w .6))
     (w .0 .came))
-    (ap (λ (u : Table). u .requests) (w .2)) (ap (λ (u : Table). u .messages) (w .2)) (w .3) (w .4)))))))))
+    (ap (λ (u : Table). u .requests) (w .2)) (ap (λ (u : Table). u .messages) (w .2)) (w .3) (w .4))))))))))
     (c .match .came)
 
 -- the record answered, by the three ways through a turn: a verdict that was left is taken up, none was left, the record was refused
@@ -112,7 +113,7 @@ same-length : tie.Need-same-length Inv-loop μ-loop
 same-length c = turned (c .before .before .before) .going .long
 
 returns : tie.Need-returns Inv-loop μ-loop
-returns c = turned-full (turned (c .before .before .before)) (sym (c .before .before .is-full .ensures) ∙ c .before .if3 .taken) (c .stop .ensures)
+returns c = turned-full (turned (c .before .before .before)) (sym (c .before .before .is-full .ensures) ∙ c .before .if4 .taken) (c .stop .ensures)
 
 sub-read-record : tie.Need-sub-read-record Inv-loop μ-loop
 sub-read-record c = let g = turned (c .before .before) .going in omega (arith, g .inside, g .all)
@@ -127,14 +128,14 @@ same-length-2 : tie.Need-same-length-2 Inv-loop μ-loop
 same-length-2 c = turned (c .before .before .before .before .before .before) .going .long
 
 returns-2 : tie.Need-returns-2 Inv-loop μ-loop
-returns-2 c = turned-cut (turned (c .before .before .before .before .before .before)) (c .before .before .read-record .ensures) (c .before .if4 .taken) (c .stop2 .ensures)
+returns-2 c = turned-cut (turned (c .before .before .before .before .before .before)) (c .before .before .read-record .ensures) (c .before .if5 .taken) (c .stop2 .ensures)
 
 -- the next record read
 again
-    : (c : tie.Else4 Inv-loop μ-loop)
+    : (c : tie.Else5 Inv-loop μ-loop)
     → Turning (start (c .before .before .before .before .before .before .before .before .before .before .before .before) .args .t1) (start (c .before .before .before .before .before .before .before .before .before .before .before .before) .args .first) (start (c .before .before .before .before .before .before .before .before .before .before .before .before) .args .nth) (start (c .before .before .before .before .before .before .before .before .before .before .before .before) .args .input .now) (start (c .before .before .before .before .before .before .before .before .before .before .before .before) .args .output .now) (c .before .before .before .before .before .before .before .before .before .before .before .before .before .before .before .before .before .before .bytes-in .result) (c .before .before .before .before .before .before .before .before .before .before .before .before .before .before .before .before .bytes-in2 .result)
     (c .before .before .before .before .before .before .before .before .before .if1 .t) (c .before .before .before .before .before .before .before .before .before .if1 .heads) (c .before .before .before .before .before .before .before .before .before .if1 .used) (c .before .read-record .result) (c .before .before .before .before .before .before .before .write-answer .last .0) (c .before .before .before .before .before .before .before .before .before .before .before .loop .at + c .before .read-record .result .next) (c .before .before .before .before .before .before .before .before .before .before .before .loop .to + c .before .before .before .before .before .before .before .write-answer .result) (c .before .before .before .before .before .before .before .before .before .before .before .loop .next + 1)
-again c = turned-read (turned (c .before .before .before .before .before)) (sym (c .before .before .before .before .is-full .ensures) ∙ c .before .before .before .if3 .left) (c .before .read-record .ensures) (c .if4 .left)
+again c = turned-read (turned (c .before .before .before .before .before)) (sym (c .before .before .before .before .is-full .ensures) ∙ c .before .before .before .if4 .left) (c .before .read-record .ensures) (c .if5 .left)
 
 end-fits : (c : tie.After-bytes-in Inv-loop μ-loop) → c .bytes-in .result < 18446744073709551616
 end-fits c = search needs
@@ -143,7 +144,7 @@ add-at : tie.Need-add-at Inv-loop μ-loop
 add-at c = let k = end-fits (c .before .before .before .before .before .before .before .before .before .before .before .before .before .before .before .before .before .before) in let f = again c .facing in omega (arith, f .inside, f .all)
 
 loop-less : tie.Need-loop-less Inv-loop μ-loop
-loop-less c = let f = again c .facing in omega (arith, f .inside, f .all, c .if4 .left)
+loop-less c = let f = again c .facing in omega (arith, f .inside, f .all, c .if5 .left)
 
 loop-again : tie.Need-loop-again Inv-loop μ-loop
 loop-again c = again c
@@ -216,7 +217,7 @@ answer-from-spec =
     (λ c κs. search needs)
     (λ c. search needs)
     (λ c. search needs)
-    (λ c κs. few-forget _ _ _ _ _ (c .before .before .retire .ensures))
+    (λ c κs. few-forget _ _ _ _ _ (c .before .before .before .before .before .retire .ensures))
     (λ c. search needs)
     (λ c. search needs)
     (λ c κs. search needs)
