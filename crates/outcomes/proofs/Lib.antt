@@ -14,6 +14,7 @@ pub mod Sets
 pub mod Sitefile
 pub mod Stamps
 pub mod Steps
+pub mod Stream
 pub mod Table
 pub mod Vote
 pub mod Walk

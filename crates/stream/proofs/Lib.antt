@@ -1,2 +1,3 @@
--- The laws of the programs' shared loop.
+-- The laws of the programs' shared loop, and of a site's copy in a buffer.
+mod Copies
 mod Laws

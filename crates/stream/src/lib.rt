@@ -1,5 +1,7 @@
 // A night from standard input to standard output: what the programs share. All that is said of the table and of the lines is said of
-// `steps::run`; what a read brings and where a write goes no contract can say.
+// `steps::run`; what a read brings and where a write goes no contract can say, so the public calls give nothing back.
+mod files;
+
 ghost use Prim.Native.Nat.{_≤_};
 ghost use mathlib.Core.Path.{_≡_};
 ghost use mathlib.Core.Bool.{true};
@@ -8,6 +10,7 @@ ghost use Rattle.io.specs.Counts.{Counts};
 ghost use Rattle.table.specs.Meaning.{ShapedTable};
 ghost use Rattle.table.specs.Sound.{soundTable};
 ghost use Rattle.stream.specs.Stands.{Stands};
+use crate::files::save_copies;
 use libc::STDIN_FILENO;
 use libc::STDOUT_FILENO;
 use lines::write_line;
@@ -16,9 +19,9 @@ use table::data::Table;
 use table::fresh::fresh;
 
 // How a night ended: document 01's number (3 for a bad site count, 17 for no input at all, else 0), and the table as the last record left it.
-pub struct Ended {
-    pub number: u8,
-    pub table: Table,
+struct Ended {
+    number: u8,
+    table: Table,
 }
 
 // Where a night stands: the table, the number of the next record, where in the buffer the bytes that wait begin and end, and whether it
@@ -167,7 +170,7 @@ fn answer_all(t: Table) -> Table
 
 // Reads the site count and then records, prints a line for each, and gives back the table: sound, or of no sites where the night was
 // refused.
-pub fn print_night() -> Ended
+fn run_night() -> Ended
     ensures sound { λ r. ⌜ (r .number ≡ 0 → soundTable (r .table) ≡ true) ⌝ }
     ensures count { λ r. ⌜ r .table .count ≤ 7 ⌝ }
 {
@@ -189,5 +192,23 @@ pub fn print_night() -> Ended
     Ended {
         number: 0,
         table: last,
+    }
+}
+
+// Reads the site count and then records, and prints a line for each.
+pub fn print_night()
+    ensures { λ r. ⌜ r ≡ tt ⌝ }
+{
+    run_night();
+}
+
+// The same, and then writes the file of each site, unless the night was refused.
+pub fn print_night_and_files()
+    ensures { λ r. ⌜ r ≡ tt ⌝ }
+{
+    let night = run_night();
+    let t = night.table;
+    if night.number == 0 {
+        save_copies(t);
     }
 }

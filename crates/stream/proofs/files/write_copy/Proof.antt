@@ -1,9 +1,9 @@
--- `site_files::write_copy` meets its contract: what it leaves at the front of the buffer is the file.
+-- `stream::files::write_copy` meets its contract: what it leaves at the front of the buffer is the file.
 use native.Mathlib.Omega.{arith}
 use borrow.Author.Needs.{needs}
-use Rattle.site_files.proofs.Laws.{copy-in}
-use Rattle.site_files.proofs.write_copy.Statement.{statement}
-use Rattle.site_files.proofs.write_copy.Tie as tie
+use Rattle.stream.proofs.Copies.{copy-in}
+use Rattle.stream.proofs.files.write_copy.Statement.{statement}
+use Rattle.stream.proofs.files.write_copy.Tie as tie
 
 index-requires : tie.Need-index-requires
 index-requires c κs = search needs

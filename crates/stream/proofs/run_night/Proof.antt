@@ -1,9 +1,9 @@
--- `stream::print_night` meets its contract: the table is a fresh one, or what the records made of one.
+-- `stream::run_night` meets its contract: the table is a fresh one, or what the records made of one.
 use native.Mathlib.Omega.{arith}
 use borrow.Author.Needs.{needs}
 use Rattle.stream.proofs.Laws.{fresh-sound, fresh-few, sound-few}
-use Rattle.stream.proofs.print_night.Statement.{statement}
-use Rattle.stream.proofs.print_night.Tie as tie
+use Rattle.stream.proofs.run_night.Statement.{statement}
+use Rattle.stream.proofs.run_night.Tie as tie
 
 slice-aggregate-read-full : tie.Need-slice-aggregate-read-full
 slice-aggregate-read-full c = search needs
@@ -38,8 +38,8 @@ answer-all-requires c κs = fresh-sound _ _ (c .before .before .before .fresh2 .
 returns-3 : tie.Need-returns-3
 returns-3 c = (λ z. c .answer-all .ensures, sound-few _ (c .answer-all .ensures))
 
-pub print-night-spec : {M : Type 1} → statement M
-print-night-spec =
+pub run-night-spec : {M : Type 1} → statement M
+run-night-spec =
     tie.close
     (tie.spec
     slice-aggregate-read-full

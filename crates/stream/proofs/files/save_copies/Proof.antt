@@ -1,8 +1,8 @@
--- `site_files::save_copies` is safe and ends: site after site.
+-- `stream::files::save_copies` is safe and ends: site after site.
 use Prim.Native.Nat.{_-_, _≤_}
 use borrow.Author.Needs.{needs}
-use Rattle.site_files.proofs.save_copies.Statement.{statement}
-use Rattle.site_files.proofs.save_copies.Tie as tie
+use Rattle.stream.proofs.files.save_copies.Statement.{statement}
+use Rattle.stream.proofs.files.save_copies.Tie as tie
 
 abbrev Inv-loop : tie.InvT-loop
 Inv-loop t n k₀ k = k ≤ n

@@ -1,2 +1,0 @@
--- The laws of a site's copy in a buffer.
-mod Laws
