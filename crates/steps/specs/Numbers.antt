@@ -48,6 +48,7 @@ cannotRetire t p =
 
 -- ---- the smallest that applies, step by step
 
+-- begin: 3 to 9
 unfoldable pub beginNumber : Table → Step → ℕ
 beginNumber t a =
     cond (noSuchSite t (a .site)) 3
@@ -59,6 +60,7 @@ beginNumber t a =
     (cond (eqb (freePlace t) 16) 9
     0))))))
 
+-- tell: 3, 4, 10, 11, 12
 unfoldable pub tellNumber : Table → Step → ℕ
 tellNumber t a =
     cond (noSuchSite t (a .site) || noSuchSite t (a .to)) 3
@@ -68,24 +70,29 @@ tellNumber t a =
     (cond (eqb (freeMessage t) 64) 12
     0))))
 
--- the receiver is the acting site
+-- deliver: 4, 13; the receiver is the acting site
 unfoldable pub deliverNumber : Table → Step → ℕ
 deliverNumber t a =
     cond (not (noMessageAt t (a .place)) && not (siteAt t (messageAt t (a .place) .to) .up)) 4
     (cond (noMessageAt t (a .place)) 13
     0)
 
+-- drop: 13
 unfoldable pub dropNumber : Table → Step → ℕ
 dropNumber t a = cond (noMessageAt t (a .place)) 13 0
 
+-- down: 3, 4
 unfoldable pub downNumber : Table → Step → ℕ
 downNumber t a = cond (noSuchSite t (a .site)) 3 (cond (isDown t (a .site)) 4 0)
 
+-- up: 3, 15
 unfoldable pub upNumber : Table → Step → ℕ
 upNumber t a = cond (noSuchSite t (a .site)) 3 (cond (not (isDown t (a .site))) 15 0)
 
+-- retire: 10, 14
 unfoldable pub retireNumber : Table → Step → ℕ
 retireNumber t a = cond (eqb (placeOf t (a .stamp)) 16) 10 (cond (cannotRetire t (placeOf t (a .stamp))) 14 0)
 
+-- read: 3, 4, 16
 unfoldable pub readNumber : Table → Step → ℕ
 readNumber t a = cond (noSuchSite t (a .site)) 3 (cond (isDown t (a .site)) 4 (cond (leb 24 (a .item)) 16 0))
