@@ -32,7 +32,7 @@ use Rattle.table.proofs.Meaning.{meant}
 use Rattle.steps.specs.Numbers.{freePlace, freeMessage, placeOf, cannotTell, noMessageAt, beginNumber, tellNumber, deliverNumber}
 use Rattle.steps.specs.Steps.{stepped, entered, begun, told, delivered, advanced}
 use Rattle.steps.proofs.Upkeep.{Well, advanced-well}
-use Rattle.demand.specs.Examples.{Standing, evening, nightOf}
+use Rattle.demand.specs.Examples.{Standing, evening, played}
 use Rattle.demand.proofs.Examples.{sureAll, sure}
 use Rattle.cases.specs.Cases.{EveryRow, benchCases, tableAfter, answersFrom, answersTo, issues, numbers, verdictCounts, allSay, copyAt, secondComes, firstComes, thenSecond, thatVerdict, uSpreads, aSpreads, wordComesLate, verdictComesLate, beginsWide, beginsNarrow}
 

@@ -19,7 +19,7 @@ use Rattle.table.specs.Places.{siteAt}
 use Rattle.table.specs.declared.data.Table.{Table}
 use Rattle.steps.specs.Numbers.{placeOf}
 use Rattle.steps.specs.Steps.{stepped}
-use Rattle.demand.specs.Examples.{nightOf, begins, tells, delivers}
+use Rattle.demand.specs.Examples.{played, begins, tells, delivers}
 
 infix 5 _gives_
 -- ---- rows, and the statement
@@ -37,13 +37,14 @@ EveryRow ((computed gives said) ∷ rows) = (computed ≡ said) × EveryRow rows
 
 -- the table after these steps, the first of them first
 abbrev pub tableAfter : ℕ → List Step → Table
-tableAfter n steps = nightOf n steps .table
+tableAfter n steps = played n steps .table
 
 -- what these steps answer, the first of them first
 unfoldable pub answersFrom : Table → List Step → List Answer
 answersFrom t [] = []
 answersFrom t (a ∷ rest) = stepped t a .answer ∷ answersFrom (stepped t a .table) rest
 
+-- what these steps answer from a fresh table of n sites
 abbrev pub answersTo : ℕ → List Step → List Answer
 answersTo n steps = answersFrom (freshFor n .table) steps
 
@@ -139,6 +140,7 @@ verdictComesLate = wordComesLate ++ (tells 1 8001 3 ∷ delivers 5 ∷ [])
 
 -- ---- the table
 
+-- "Cases 1 to 10 form a single table under a single statement."
 abbrev pub benchCases : List CaseRow
 benchCases =
     -- 1. "n = 1, 2, 3, 4, 7: m = 1, 2, 2, 3, 4; to reject 1, 1, 2, 2, 4."

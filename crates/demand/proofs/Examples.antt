@@ -6,7 +6,7 @@ use lib.Dec.{eqb}
 use mathlib.Core.Bool.{cond}
 use mathlib.Core.List.{List, [], _∷_, _++_}
 use mathlib.Core.Path.{_≡_, refl, ap, _∙_}
-use Rattle.demand.specs.Examples.{Standing, onward, afterAll, evening, nightOf, Small, alone, early, caughtUp, late, settledLate, rivals, Shown}
+use Rattle.demand.specs.Examples.{Standing, onward, afterAll, evening, played, Small, alone, early, caughtUp, late, settledLate, rivals, Shown}
 use Rattle.plans.specs.Changes.{stored, forgotten}
 use Rattle.table.specs.Places.{siteAt, placeAt, markAt, verdictAt}
 use lib.ListN.{getD}
@@ -60,12 +60,12 @@ all-sure x [] w = refl
 all-sure x (a ∷ rest) w = ap (λ (y : Standing). afterAll y rest) (is-sure x a w) ∙ all-sure (surely x a) rest (advanced-well (x .table) a w)
 
 -- so a night is computed without testing soundness at each step
-pub sure : (n : ℕ) → 1 ≤ n → n ≤ 7 → (steps : List Step) → nightOf n steps ≡ sureAll (evening n) steps
+pub sure : (n : ℕ) → 1 ≤ n → n ≤ 7 → (steps : List Step) → played n steps ≡ sureAll (evening n) steps
 unfolding freshFor
 sure n low high steps = all-sure (evening n) steps (rw (le-leb 1 n low, le-leb n 7 high) (record { sound = fresh-means n low high; shaped = fresh-shaped n }))
 
 -- and it is a night of demand 3
-pub is-night : (n : ℕ) → 1 ≤ n → n ≤ 7 → (steps : List Step) → Small steps → Night (nightOf n steps .table) (nightOf n steps .history)
+pub is-night : (n : ℕ) → 1 ≤ n → n ≤ 7 → (steps : List Step) → Small steps → Night (played n steps .table) (played n steps .history)
 unfolding afterAll Small
 is-night n low high steps small = going (evening n) (fresh n low high) steps small
   where
@@ -73,10 +73,10 @@ is-night n low high steps small = going (evening n) (fresh n low high) steps sma
     going x w [] small = w
     going x w (a ∷ rest) small = going (onward x a) (after w a (small .0)) rest (small .1)
 
-one : (steps : List Step) → nightOf 1 steps ≡ sureAll (evening 1) steps
+one : (steps : List Step) → played 1 steps ≡ sureAll (evening 1) steps
 one = sure 1 (omega arith) (omega arith)
 
-three : (steps : List Step) → nightOf 3 steps ≡ sureAll (evening 3) steps
+three : (steps : List Step) → played 3 steps ≡ sureAll (evening 3) steps
 three = sure 3 (omega arith) (omega arith)
 
 pub shown : Shown

@@ -32,8 +32,9 @@ afterAll x (a ∷ rest) = afterAll (onward x a) rest
 abbrev pub evening : ℕ → Standing
 evening n = record { table = freshFor n .table; history = [] }
 
-abbrev pub nightOf : ℕ → List Step → Standing
-nightOf n steps = afterAll (evening n) steps
+-- a night of n sites: these steps from a fresh table
+abbrev pub played : ℕ → List Step → Standing
+played n steps = afterAll (evening n) steps
 
 -- every update set is a word of 32 bits
 unfoldable pub Small : List Step → Type 0
@@ -149,21 +150,27 @@ rivals = begins 1 1000 0 (pos 7) ∷ begins 2 1000 0 (pos 9) ∷ tells 2 8002 1 
 
 -- ---- their requests
 
+-- U, based on nothing
 abbrev u : Request
 u = onItem0 8001 0 (pos 7)
 
+-- A, based on U
 abbrev a : Request
 a = onItem0 8009 8001 (pos 8)
 
+-- the reading entered as if nothing had been measured
 abbrev stale : Request
 stale = onItem0 8009 0 (pos 8)
 
+-- the one that takes the freed place, based on U
 abbrev next : Request
 next = onItem0 8017 8001 (pos 9)
 
+-- X, of site 1
 abbrev x : Request
 x = onItem0 8001 0 (pos 7)
 
+-- Y, of site 2, on the same reading
 abbrev y : Request
 y = onItem0 8002 0 (pos 9)
 
@@ -173,29 +180,29 @@ y = onItem0 8002 0 (pos 9)
 pub record Shown : Type 0 where
   -- accepted and rejected
   pub alone-says
-      : nightOf 1 alone .history
+      : played 1 alone .history
       ≡ (ruled 0 next verdict.Accepted ∷ voted 0 next mark.Ok ∷ began next ∷ ruled 0 stale verdict.Rejected ∷ voted 0 stale mark.Rej ∷ began stale
       ∷ ruled 0 u verdict.Accepted ∷ voted 0 u mark.Ok ∷ began u ∷ [])
   -- retired, and its place used again
-  pub alone-holds : placeAt (nightOf 1 alone .table) 0 ≡ next
+  pub alone-holds : placeAt (played 1 alone .table) 0 ≡ next
   -- deferred
-  pub early-waits : markAt (nightOf 3 early .table) 2 1 ≡ mark.Deferred
+  pub early-waits : markAt (played 3 early .table) 2 1 ≡ mark.Deferred
   -- considered again after a verdict, and accepted
   pub caught-up
-      : nightOf 3 caughtUp .history
+      : played 3 caughtUp .history
       ≡ (ruled 2 a verdict.Accepted ∷ voted 2 a mark.Ok ∷ ruled 2 u verdict.Accepted ∷ voted 2 u mark.Ok ∷ voted 0 a mark.Ok ∷ began a
       ∷ ruled 0 u verdict.Accepted ∷ ruled 1 u verdict.Accepted ∷ voted 1 u mark.Ok ∷ voted 0 u mark.Ok ∷ began u ∷ [])
   -- as in case 9: the late site votes REJ on what the others accepted, and that rejects nothing
   pub late-says
-      : nightOf 3 late .history
+      : played 3 late .history
       ≡ (voted 2 u mark.Rej ∷ ruled 2 a verdict.Accepted ∷ ruled 1 a verdict.Accepted ∷ voted 1 a mark.Ok ∷ voted 0 a mark.Ok ∷ began a
       ∷ ruled 0 u verdict.Accepted ∷ ruled 1 u verdict.Accepted ∷ voted 1 u mark.Ok ∷ voted 0 u mark.Ok ∷ began u ∷ [])
-  pub late-open : verdictAt (nightOf 3 late .table) 2 0 ≡ verdict.Open
+  pub late-open : verdictAt (played 3 late .table) 2 0 ≡ verdict.Open
   -- it takes the verdict over when it comes, and keeps the later reading
-  pub late-accepts : verdictAt (nightOf 3 settledLate .table) 2 0 ≡ verdict.Accepted
-  pub late-keeps : getD (siteAt (nightOf 3 settledLate .table) 2 .stamps) 0 0 ≡ a .stamp
+  pub late-accepts : verdictAt (played 3 settledLate .table) 2 0 ≡ verdict.Accepted
+  pub late-keeps : getD (siteAt (played 3 settledLate .table) 2 .stamps) 0 0 ≡ a .stamp
   -- one DR and one REJ reject
   pub rivals-say
-      : nightOf 3 rivals .history
+      : played 3 rivals .history
       ≡ (ruled 2 y verdict.Rejected ∷ voted 2 y mark.Rej ∷ ruled 2 x verdict.Accepted ∷ voted 2 x mark.Ok ∷ voted 0 y mark.Dr ∷ voted 1 y mark.Ok
       ∷ began y ∷ voted 0 x mark.Ok ∷ began x ∷ [])

@@ -32,6 +32,7 @@ pub data Newest (h : History) (s i stamp : ℕ) (value : ℤ) : Type 0 where
   reading : (r : Request) → AcceptedAt h s r → member (r .update) i ≡ true → stamp ≡ r .stamp → value ≡ getD (r .values) i (pos 0)
       → ((q : Request) → AcceptedAt h s q → member (q .update) i ≡ true → q .stamp ≤ r .stamp) → Newest h s i stamp value
 
+-- what holds of the table t after the history h
 pub record Promise (t : Table) (h : History) : Type 0 where
   -- "No request is ever accepted at one site and rejected at any."
   pub agreed : (r : Request) (s u : ℕ) → AcceptedAt h s r → RejectedAt h u r → ⊥

@@ -30,6 +30,7 @@ pub data Event (X : Type 0) : Type 0 where
   begin : Request X → Event X
   ok against accept reject : ℕ → Request X → Event X
 
+-- what has happened, the newest first
 abbrev pub History : Type 0 → Type 0
 History X = List (Event X)
 

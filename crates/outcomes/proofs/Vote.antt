@@ -86,8 +86,6 @@ use Rattle.vote.proofs.voters.is_no_voter.Kinds as is-no-voter-kinds
 use Rattle.vote.proofs.voters.is_no_voter.Reads as is-no-voter-reads
 use Rattle.vote.proofs.voters.is_none_known.Kinds as is-none-known-kinds
 use Rattle.vote.proofs.voters.is_none_known.Reads as is-none-known-reads
-use Rattle.vote.proofs.voters.are_among.Kinds as are-among-kinds
-use Rattle.vote.proofs.voters.are_among.Reads as are-among-reads
 use Rattle.vote.proofs.voters.list_voters.Kinds as list-voters-kinds
 use Rattle.vote.proofs.voters.list_voters.Reads as list-voters-reads
 use Rattle.vote.proofs.voters.count_voters.Kinds as count-voters-kinds
@@ -286,10 +284,6 @@ one-is-no-voter κs a r r′ w w′ p q = (as-one p q, refl)
 -- vote::voters::is_none_known
 pub one-is-none-known : OneOutcome is-none-known-kinds.ps is-none-known-kinds.r is-none-known-reads.Learnt
 one-is-none-known κs a r r′ w w′ p q = (as-one p q, refl)
-
--- vote::voters::are_among
-pub one-are-among : OneOutcome are-among-kinds.ps are-among-kinds.r are-among-reads.Learnt
-one-are-among κs a r r′ w w′ p q = (as-one p q, refl)
 
 -- vote::voters::list_voters
 pub one-list-voters : OneOutcome list-voters-kinds.ps list-voters-kinds.r list-voters-reads.Learnt

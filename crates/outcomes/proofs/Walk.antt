@@ -2,10 +2,6 @@
 use mathlib.Core.Path.{refl}
 use Rattle.outcomes.specs.Outcomes.{OneOutcome}
 use Rattle.outcomes.proofs.Same.{as-one}
-use Rattle.walk.proofs.hearing.take_up.Kinds as take-up-kinds
-use Rattle.walk.proofs.hearing.take_up.Reads as take-up-reads
-use Rattle.walk.proofs.hearing.receive.Kinds as receive-kinds
-use Rattle.walk.proofs.hearing.receive.Reads as receive-reads
 use Rattle.walk.proofs.walking.one_if_accepted.Kinds as one-if-accepted-kinds
 use Rattle.walk.proofs.walking.one_if_accepted.Reads as one-if-accepted-reads
 use Rattle.walk.proofs.walking.one_if_rejected.Kinds as one-if-rejected-kinds
@@ -14,14 +10,6 @@ use Rattle.walk.proofs.walking.walk.Kinds as walk-kinds
 use Rattle.walk.proofs.walking.walk.Reads as walk-reads
 use Rattle.walk.proofs.walking.resolve.Kinds as resolve-kinds
 use Rattle.walk.proofs.walking.resolve.Reads as resolve-reads
-
--- walk::hearing::take_up
-pub one-take-up : OneOutcome take-up-kinds.ps take-up-kinds.r take-up-reads.Learnt
-one-take-up κs a r r′ w w′ p q = (as-one p q, refl)
-
--- walk::hearing::receive
-pub one-receive : OneOutcome receive-kinds.ps receive-kinds.r receive-reads.Learnt
-one-receive κs a r r′ w w′ p q = (as-one p q, refl)
 
 -- walk::walking::one_if_accepted
 pub one-one-if-accepted : OneOutcome one-if-accepted-kinds.ps one-if-accepted-kinds.r one-if-accepted-reads.Learnt

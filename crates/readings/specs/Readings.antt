@@ -8,6 +8,7 @@ use lib.Signed.{leZ}
 abbrev pub movementOf : ℕ → ℕ
 movementOf item = item / 6
 
+-- "position 0 dial up, 1 dial down, 2 to 5 the four crown positions"
 abbrev pub positionOf : ℕ → ℕ
 positionOf item = item % 6
 

@@ -33,15 +33,18 @@ checked s = s ++ bytesOf 4 (fnvOf s)
 unfoldable pub framed : {E : Type 0} → Form E → ℕ → List E → List ℕ
 framed f site es = checked (joined f es ++ trailerOf (f .width) site (length es))
 
--- the trailer's numbers in a file, counted from its end
+-- the trailer's numbers in a file, counted from its end: "site"
 unfoldable pub siteIn : List ℕ → ℕ
 siteIn b = fieldAt b (length b - 8) 1
 
+-- "entry count"
 unfoldable pub countIn : List ℕ → ℕ
 countIn b = fieldAt b (length b - 7) 1
 
+-- "distance back from the trailer to the first entry (2 bytes, ..)"
 unfoldable pub distanceIn : List ℕ → ℕ
 distanceIn b = fieldAt b (length b - 6) 2
 
+-- the check, the last four bytes
 unfoldable pub checkIn : List ℕ → ℕ
 checkIn b = fieldAt b (length b - 4) 4

@@ -19,7 +19,7 @@ use Rattle.sitefile.specs.declared.SiteFile.{SiteFile}
 unfoldable pub wrongLength : ℕ → List ℕ → Bool
 wrongLength w b = not (eqb (length b) (w * countIn b + 8))
 
--- "site not 1 to 7"
+-- "site not 1 to 7": the reader's and the writer's
 unfoldable pub wrongSite : ℕ → Bool
 wrongSite site = ltb site 1 || ltb 7 site
 

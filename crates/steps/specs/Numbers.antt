@@ -1,11 +1,12 @@
 -- Document 01, "Numbers given back": the smallest number that applies to a step, 0 where none does. From a sound table, a code from 1 to 8.
 use Prim.Native.Nat.{ℕ, _-_}
 use mathlib.Core.Bool.{Bool, not, _&&_, _||_, cond}
-use lib.Dec.{eqb, leb, ltb}
-use Rattle.kit.specs.Range.{any, first}
+use lib.Dec.{eqb, leb}
+use Rattle.kit.specs.Range.{first}
+use Rattle.plans.specs.Pieces.{noSuchDigit, noMessageThere, heldBack}
 use Rattle.record.specs.declared.Step.{Step}
 use Rattle.stamps.specs.Issue.{issued, issueNumber}
-use Rattle.table.specs.Places.{siteAt, messageAt, placeAt, usedPlace, isSite, markAt, verdictAt}
+use Rattle.table.specs.Places.{siteAt, messageAt, placeAt, usedPlace, markAt, verdictAt}
 use Rattle.table.specs.Sound.{setsAllowed, baseStampsAllowed, valuesAllowed}
 use Rattle.table.specs.declared.data.Table.{Table}
 use Rattle.vote.specs.Data.{isOk, isOther, isOpen}
@@ -14,7 +15,7 @@ use Rattle.vote.specs.Data.{isOk, isOther, isOpen}
 
 -- "a site not 1 to the site count"
 abbrev pub noSuchSite : Table → ℕ → Bool
-noSuchSite t site = not (leb 1 site && leb site (t .count))
+noSuchSite t site = noSuchDigit (t .count) site
 
 -- "the acting site is down"
 abbrev pub isDown : Table → ℕ → Bool
@@ -39,15 +40,15 @@ cannotTell t from p to =
 
 -- "message place empty or above 63"
 unfoldable pub noMessageAt : Table → ℕ → Bool
-noMessageAt t j = not (ltb j 64 && messageAt t j .used)
+noMessageAt t j = noMessageThere j (messageAt t j)
 
 -- "some site of the table has no verdict on it (one that never heard of it included), or a message names it"
 unfoldable pub cannotRetire : Table → ℕ → Bool
-cannotRetire t p =
-    any 7 (λ k. isSite t k && isOpen (verdictAt t k p)) || any 64 (λ j. messageAt t j .used && eqb (messageAt t j .request) p)
+cannotRetire t p = heldBack (t .count) (t .sites) (t .messages) p
 
 -- ---- the smallest that applies, step by step
 
+-- begin: 3 to 9
 unfoldable pub beginNumber : Table → Step → ℕ
 beginNumber t a =
     cond (noSuchSite t (a .site)) 3
@@ -59,6 +60,7 @@ beginNumber t a =
     (cond (eqb (freePlace t) 16) 9
     0))))))
 
+-- tell: 3, 4, 10, 11, 12
 unfoldable pub tellNumber : Table → Step → ℕ
 tellNumber t a =
     cond (noSuchSite t (a .site) || noSuchSite t (a .to)) 3
@@ -68,24 +70,29 @@ tellNumber t a =
     (cond (eqb (freeMessage t) 64) 12
     0))))
 
--- the receiver is the acting site
+-- deliver: 4, 13; the receiver is the acting site
 unfoldable pub deliverNumber : Table → Step → ℕ
 deliverNumber t a =
     cond (not (noMessageAt t (a .place)) && not (siteAt t (messageAt t (a .place) .to) .up)) 4
     (cond (noMessageAt t (a .place)) 13
     0)
 
+-- drop: 13
 unfoldable pub dropNumber : Table → Step → ℕ
 dropNumber t a = cond (noMessageAt t (a .place)) 13 0
 
+-- down: 3, 4
 unfoldable pub downNumber : Table → Step → ℕ
 downNumber t a = cond (noSuchSite t (a .site)) 3 (cond (isDown t (a .site)) 4 0)
 
+-- up: 3, 15
 unfoldable pub upNumber : Table → Step → ℕ
 upNumber t a = cond (noSuchSite t (a .site)) 3 (cond (not (isDown t (a .site))) 15 0)
 
+-- retire: 10, 14
 unfoldable pub retireNumber : Table → Step → ℕ
 retireNumber t a = cond (eqb (placeOf t (a .stamp)) 16) 10 (cond (cannotRetire t (placeOf t (a .stamp))) 14 0)
 
+-- read: 3, 4, 16
 unfoldable pub readNumber : Table → Step → ℕ
 readNumber t a = cond (noSuchSite t (a .site)) 3 (cond (isDown t (a .site)) 4 (cond (leb 24 (a .item)) 16 0))

@@ -90,6 +90,7 @@ retired t a =
 
 -- ---- 8 read
 
+-- read: "value, stamp"
 unfoldable pub readings : Table → Step → Done
 readings t a =
     let s : Site = siteAt t (a .site - 1) in

@@ -31,11 +31,13 @@ requestOf q = record {
   newValue = λ i. getD (q .values) i (pos 0);
 }
 
+-- the verdict is accepted
 abbrev pub isAccepted : Verdict → Bool
 isAccepted verdict.Open = false
 isAccepted verdict.Accepted = true
 isAccepted verdict.Rejected = false
 
+-- the verdict is rejected
 abbrev pub isRejected : Verdict → Bool
 isRejected verdict.Open = false
 isRejected verdict.Accepted = false

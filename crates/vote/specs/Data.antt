@@ -17,6 +17,7 @@ use Rattle.vote.specs.declared.data.Vote.{Vote}
 
 -- ---- marks and verdicts
 
+-- a vote of OK
 abbrev pub isOk : Mark → Bool
 isOk mark.None = false
 isOk mark.Deferred = false
@@ -40,6 +41,7 @@ isUnmarked mark.Ok = false
 isUnmarked mark.Dr = false
 isUnmarked mark.Rej = false
 
+-- a deferred mark, which is no vote
 abbrev pub isDeferred : Mark → Bool
 isDeferred mark.None = false
 isDeferred mark.Deferred = true
@@ -47,6 +49,7 @@ isDeferred mark.Ok = false
 isDeferred mark.Dr = false
 isDeferred mark.Rej = false
 
+-- no verdict yet
 abbrev pub isOpen : Verdict → Bool
 isOpen verdict.Open = true
 isOpen verdict.Accepted = false
@@ -66,6 +69,7 @@ noVote = record { mark = mark.None; verdict = verdict.Open }
 abbrev pub noRequest : Request
 noRequest = record { stamp = 0; base = 0; update = 0; stamps = []; values = [] }
 
+-- the head of no request
 abbrev pub noHead : Head
 noHead = record { stamp = 0; base = 0; update = 0 }
 
@@ -93,11 +97,13 @@ headOf q = record { stamp = q .stamp; base = q .base; update = q .update }
 unfoldable pub headsOf : List Request → List Head
 headsOf rs = listed 16 (λ j. headOf (requestAt rs j))
 
+-- the head of the request at place j
 abbrev pub headAt : List Head → ℕ → Head
 headAt heads j = getD heads j noHead
 
 -- ---- a site with one group of its fields changed
 
+-- the site with this copy: a stamp and a value for each item
 abbrev pub withCopies : List ℕ → List ℤ → Site → Site
 withCopies ts vs s = record {
   up = s .up;
@@ -111,6 +117,7 @@ withCopies ts vs s = record {
   others = s .others;
 }
 
+-- the site with this queue, of which the first n places count
 abbrev pub withQueue : List ℕ → ℕ → Site → Site
 withQueue l n s = record {
   up = s .up;
@@ -124,6 +131,7 @@ withQueue l n s = record {
   others = s .others;
 }
 
+-- the site with these marks and verdicts
 abbrev pub withVotes : List Vote → Site → Site
 withVotes votes s = record {
   up = s .up;
@@ -151,6 +159,7 @@ withKnown oks others s = record {
   others = others;
 }
 
+-- the site with this last t
 abbrev pub withLast : ℕ → Site → Site
 withLast last s = record {
   up = s .up;
@@ -164,6 +173,7 @@ withLast last s = record {
   others = s .others;
 }
 
+-- the site up, or down
 abbrev pub withUp : Bool → Site → Site
 withUp up s = record {
   up = up;

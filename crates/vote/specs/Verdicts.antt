@@ -30,9 +30,11 @@ verdictDue n oks others p =
 unfoldable pub writesItem : List ℕ → Request → ℕ → Bool
 writesItem held q i = member (q .update) i && ltb (getD held i 0) (q .stamp)
 
+-- the stamp of item i after it
 abbrev pub newStamp : List ℕ → Request → ℕ → ℕ → ℕ
 newStamp held q i old = cond (writesItem held q i) (q .stamp) old
 
+-- the value of item i after it
 abbrev pub newValue : List ℕ → Request → ℕ → ℤ → ℤ
 newValue held q i old = cond (writesItem held q i) (getD (q .values) i (pos 0)) old
 
@@ -51,6 +53,7 @@ released s p =
     (leavesQueue (marked s p mark.None) (placeInQueue (s .queue) (s .waiting) p))
     (marked s p mark.None)
 
+-- the same mark, with the verdict d
 abbrev pub withVerdict : Verdict → Vote → Vote
 withVerdict d v = record { mark = v .mark; verdict = d }
 

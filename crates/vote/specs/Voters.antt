@@ -74,18 +74,21 @@ votersKnown known p = votersIn (votersOf known p)
 unfoldable pub noneKnown : List Bool → ℕ → Bool
 noneKnown known p = noVoters (votersOf known p)
 
--- those of place p forgotten
+-- the first n voters of place p forgotten
 unfoldable pub clearUpTo : ℕ → List Bool → ℕ → List Bool
 clearUpTo zero known p = known
 clearUpTo (suc n) known p = set (clearUpTo n known p) (7 * p + n) false
 
+-- all seven forgotten
 unfoldable pub clearVoters : List Bool → ℕ → List Bool
 clearVoters known p = clearUpTo 7 known p
 
 -- ---- nothing known
 
+-- a row with no voter
 unfoldable pub noRow : List Bool
 noRow = replicate 7 false
 
+-- no voter known of any place
 unfoldable pub noKnown : List Bool
 noKnown = replicate 112 false

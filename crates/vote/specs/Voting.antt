@@ -12,6 +12,7 @@ use Rattle.vote.specs.declared.data.Mark.the-variants as mark
 use Rattle.vote.specs.declared.data.Site.{Site}
 use Rattle.vote.specs.declared.data.Vote.{Vote}
 
+-- the same verdict, with the mark m
 abbrev pub withMark : Mark → Vote → Vote
 withMark m v = record { mark = m; verdict = v .verdict }
 

@@ -131,18 +131,6 @@ fn is_implied(a: bool, b: bool) -> bool
     true
 }
 
-// Whether each voter of a is one of b.
-pub fn are_among(a: [bool; 7], b: [bool; 7]) -> bool
-    ensures { λ r. ⌜ r ≡ areAmong a b ⌝ }
-{
-    for u in 0..7 {
-        if !is_implied(has_voter(a, u), has_voter(b, u)) {
-            return false;
-        }
-    }
-    true
-}
-
 // The voters of a row as a list of site numbers, and how many they are.
 pub struct Listed {
     pub sites: [u8; 7],

@@ -1,6 +1,5 @@
 -- Laws of the walk, each family in a file of its own.
 mod Turns
-mod Hearings
 pub mod Walks
 pub mod Inductions
 pub mod HearingInductions

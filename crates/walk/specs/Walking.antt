@@ -91,11 +91,13 @@ module _ (me n : ℕ) (rs : List Request) where
 
 -- ---- the counts, read off what was said
 
+-- 1 for an acceptance
 abbrev pub acceptsOf : Verdict → ℕ
 acceptsOf verdict.Open = 0
 acceptsOf verdict.Accepted = 1
 acceptsOf verdict.Rejected = 0
 
+-- 1 for a rejection
 abbrev pub rejectsOf : Verdict → ℕ
 rejectsOf verdict.Open = 0
 rejectsOf verdict.Accepted = 0

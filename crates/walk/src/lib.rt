@@ -1,3 +1,2 @@
-// What one site does when verdicts fall: resolving and queue walking, and a request begun or heard of.
-pub mod hearing;
+// What one site does when verdicts fall: resolving and queue walking.
 pub mod walking;
