@@ -7,5 +7,6 @@ pub mod Queues
 pub mod Backing
 mod Marked
 pub mod Meaning
+pub mod Putting
 pub mod Same
 pub mod FreshSound

@@ -1,6 +1,6 @@
 -- How soundness is computed: place by place and site by site, with the sites' own marks and last t's gathered first. A reader of `soundTable`
 -- need not read this: the proofs show that both are the same.
-use Prim.Native.Nat.{ℕ, _-_}
+use Prim.Native.Nat.{ℕ, _-_, _/_, _%_}
 use mathlib.Core.Bool.{Bool, true, false, not, _&&_, _||_, cond}
 use mathlib.Core.List.{List, []}
 use lib.Dec.{eqb, leb, ltb}
@@ -14,6 +14,7 @@ use Rattle.stamps.specs.Stamps.{timeOf, digitOf, issuedForm, wellFormed}
 use Rattle.vote.specs.Data.{isOk, isOther, isUnmarked, isDeferred, isOpen, voteAt, requestAt}
 use Rattle.vote.specs.Queue.{queuedAt}
 use Rattle.vote.specs.Voters.{votersOf, votersFor, hasVoter, areAmong, noVoters, votersIn}
+use Rattle.vote.specs.declared.data.Mark.{Mark}
 use Rattle.vote.specs.declared.data.Request.{Request}
 use Rattle.vote.specs.declared.data.Site.{Site}
 use Rattle.vote.specs.declared.data.Verdict.{Verdict}
@@ -51,6 +52,10 @@ marksAt ballots p = record {
 -- the same of each of the 16 places
 unfoldable pub marksOf : List Ballot → List Marks
 marksOf ballots = listed 16 (marksAt ballots)
+
+-- the marks of all places, voter u of place p at 7 × p + u, with those of site k put in
+unfoldable pub marksPut : (Mark → Bool) → ℕ → List Vote → List Bool → List Bool
+marksPut f k votes known = listed 112 (λ i. cond (eqb (i % 7) k) (f (voteAt votes (i / 7) .mark)) (getD known i false))
 
 abbrev pub marksIn : List Marks → ℕ → Marks
 marksIn marks p = getD marks p (record { oks = []; others = [] })
