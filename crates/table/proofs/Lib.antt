@@ -7,6 +7,7 @@ pub mod Queues
 pub mod Backing
 mod Marked
 pub mod Meaning
-pub mod Putting
+mod Putting
+mod Runs
 pub mod Same
 pub mod FreshSound

@@ -78,9 +78,9 @@ requestSound n lasts stamps q p =
 
 -- ---- one site
 
--- a reading: its stamp well formed, its value in range, and 0 at stamp 0
-unfoldable pub readingRight : ℕ → ℕ → ℤ → Bool
-readingRight n stamp value = wellFormed n stamp && (inRange value && implies (eqb stamp 0) (isZero value))
+-- a value: 0 at stamp 0, and else in range
+unfoldable pub valueRight : ℕ → ℤ → Bool
+valueRight stamp value = cond (eqb stamp 0) (isZero value) (inRange value)
 
 -- its reading of item i
 unfoldable pub readingSound : ℕ → List ℕ → Site → ℕ → Bool

@@ -3,15 +3,17 @@ ghost use mathlib.Core.Path.{_≡_};
 ghost use mathlib.Core.Bool.{true, not, _&&_, cond};
 ghost use Prim.Native.Nat.{_<_, _≤_};
 ghost use lib.Dec.{eqb, leb, ltb};
+ghost use lib.IntN.{pos};
 ghost use lib.ListN.{getD};
 ghost use Rattle.kit.specs.Lists.{listed};
 ghost use Rattle.kit.specs.Range.{all, implies, one, number};
 ghost use Rattle.majority.specs.Majority.{majority, blocking};
+ghost use Rattle.stamps.specs.Stamps.{wellFormed};
 ghost use Rattle.vote.specs.Data.{isDeferred, isOpen, isUnmarked, voteAt};
 ghost use Rattle.vote.specs.Queue.{queuedAt};
 ghost use Rattle.vote.specs.Voters.{areAmong, noVoters, votersOf};
 ghost use Rattle.table.specs.Blank.{blankVote, isBlankSite};
-ghost use Rattle.table.specs.Parts.{timeRight, stampNew, requestSound, readingRight, readingSound, queueEndBlank, backedBy, openRight, holdingSound, siteSound, messageSound};
+ghost use Rattle.table.specs.Parts.{timeRight, stampNew, requestSound, valueRight, readingSound, queueEndBlank, backedBy, openRight, holdingSound, siteSound, messageSound};
 ghost use Rattle.table.specs.Sound.{queueExact};
 use crate::blank::is_blank_message;
 use crate::blank::is_blank_request;
@@ -19,6 +21,7 @@ use crate::blank::is_blank_site;
 use crate::blank::is_blank_vote;
 use crate::data::Message;
 use crate::marks::is_in_time;
+use crate::requests::are_both;
 use crate::requests::is_request_allowed;
 use vote::consider::is_deferred;
 use vote::consider::is_ok;
@@ -79,42 +82,63 @@ pub(crate) fn is_request_sound<'a>(
     is_stamp_new(stamps, p)
 }
 
-// Whether a reading is allowed: its stamp well formed, its value in range, and 0 at stamp 0.
-fn is_reading_allowed(n: u8, stamp: u64, value: i32) -> bool
-    ensures { λ r. ⌜ r ≡ readingRight n stamp value ⌝ }
+// Whether a stamp is well formed and in time that stands behind one that is: often it is the same.
+fn is_next_sound(n: u8, lasts: &[u32; 7], last: u64, stamp: u64) -> bool
+    requires { ⌜ (wellFormed n last && timeRight (now lasts) last) ≡ true ⌝ }
+    ensures { λ r. ⌜ r ≡ (wellFormed n stamp && timeRight (now (lasts .entry)) stamp) ⌝ }
 {
+    if stamp == last {
+        return true;
+    }
     if !stamps::is_well_formed(n, stamp) {
         return false;
     }
-    if !readings::is_in_range(value) {
-        return false;
-    }
-    if stamp == 0 {
-        return readings::is_zero(value);
+    is_in_time(lasts, stamp)
+}
+
+// Whether each stamp of a copy is well formed and in time.
+fn are_copied_in_time<'a>(n: u8, lasts: &'a [u32; 7], copied: &'a [u64; 24]) -> bool
+    ensures { λ r. ⌜ r ≡ all 24 (λ i. wellFormed n (getD (now (copied .entry)) i 0) && timeRight (now (lasts .entry)) (getD (now (copied .entry)) i 0)) ⌝ }
+{
+    let mut last: u64 = 0;
+    for i in 0..24 {
+        if !is_next_sound(n, lasts, last, copied[i]) {
+            return false;
+        }
+        last = copied[i];
     }
     true
 }
 
-// Whether a site's reading of item i is sound.
-fn is_reading_sound(n: u8, lasts: &[u32; 7], stamp: u64, value: i32) -> bool
-    ensures { λ r. ⌜ r ≡ (readingRight n stamp value && timeRight (now (lasts .entry)) stamp) ⌝ }
+// Whether a value is in range, and 0 at stamp 0.
+fn is_value_right(stamp: u64, value: i32) -> bool
+    ensures { λ r. ⌜ r ≡ valueRight stamp value ⌝ }
 {
-    if !is_reading_allowed(n, stamp, value) {
-        return false;
+    if stamp == 0 {
+        return readings::is_zero(value);
     }
-    is_in_time(lasts, stamp)
+    readings::is_in_range(value)
+}
+
+// Whether each value of a copy is right beside its stamp. No turn leaves the loop, so that the tests can be made side by side.
+fn are_copied_right<'a>(copied: &'a [u64; 24], values: &'a [i32; 24]) -> bool
+    ensures { λ r. ⌜ r ≡ all 24 (λ i. valueRight (getD (now (copied .entry)) i 0) (getD (now (values .entry)) i (pos 0))) ⌝ }
+{
+    let mut good = true;
+    for i in 0..24 {
+        good = are_both(good, is_value_right(copied[i], values[i]));
+    }
+    good
 }
 
 // Whether a site's copy is sound.
 fn is_copy_sound(n: u8, lasts: &[u32; 7], s: Site) -> bool
     ensures { λ r. ⌜ r ≡ all 24 (readingSound n (now (lasts .entry)) s) ⌝ }
 {
-    for i in 0..24 {
-        if !is_reading_sound(n, lasts, s.stamps[i], s.values[i]) {
-            return false;
-        }
+    if !are_copied_in_time(n, lasts, &s.stamps) {
+        return false;
     }
-    true
+    are_copied_right(&s.stamps, &s.values)
 }
 
 // Whether place i of a queue is 0, if it lies behind the end.
