@@ -10,4 +10,5 @@ pub mod Meaning
 mod Putting
 mod Runs
 pub mod Same
+mod Whole
 pub mod FreshSound

@@ -110,14 +110,10 @@ module _ (n : ℕ) (lasts : List ℕ) (s : Site) where
       turned true false false = refl
       turned false b d = refl
 
-  pub copy-untimely : {r : Bool} → r ≡ all 24 stampAt → not r ≡ true → false ≡ all 24 (readingSound n lasts s)
-  copy-untimely {r} e h =
-      by-test (all 24 (readingSound n lasts s))
-      (λ t. sym (not-true r h) ∙ e ∙ all-of 24 stampAt (λ i l. and-left (stampAt i) (valueAt i) (sym (reading-parts i) ∙ all-at (readingSound n lasts s) 24 i t l)) ∙ sym t)
-      (λ f. sym f)
-
-  pub copy-valued : {r g : Bool} → r ≡ all 24 stampAt → not r ≡ false → g ≡ all 24 valueAt → g ≡ all 24 (readingSound n lasts s)
-  copy-valued {r} {g} e h f =
-      f ∙ same-test (all 24 valueAt) (all 24 (readingSound n lasts s))
-      (λ t. all-of 24 (readingSound n lasts s) (λ i l. reading-parts i ∙ both-true (all-at stampAt 24 i (passes e h) l) (all-at valueAt 24 i t l)))
-      (λ t. all-of 24 valueAt (λ i l. and-right (stampAt i) (valueAt i) (sym (reading-parts i) ∙ all-at (readingSound n lasts s) 24 i t l)))
+  pub copy-means : {r : Bool} → r ≡ (all 24 stampAt && all 24 valueAt) → r ≡ all 24 (readingSound n lasts s)
+  copy-means e =
+      e ∙ same-test (all 24 stampAt && all 24 valueAt) (all 24 (readingSound n lasts s))
+      (λ t. all-of 24 (readingSound n lasts s) (λ i l. reading-parts i ∙ both-true (all-at stampAt 24 i (and-left (all 24 stampAt) (all 24 valueAt) t) l) (all-at valueAt 24 i (and-right (all 24 stampAt) (all 24 valueAt) t) l)))
+      (λ t. both-true
+      (all-of 24 stampAt (λ i l. and-left (stampAt i) (valueAt i) (sym (reading-parts i) ∙ all-at (readingSound n lasts s) 24 i t l)))
+      (all-of 24 valueAt (λ i l. and-right (stampAt i) (valueAt i) (sym (reading-parts i) ∙ all-at (readingSound n lasts s) 24 i t l))))

@@ -27,7 +27,7 @@ use Rattle.vote.specs.declared.data.Verdict.the-variants as verdict
 use Rattle.vote.specs.declared.data.Vote.{Vote}
 use Rattle.table.specs.Blank.{blankVote, isBlankRequest, holdsNothing, isBlankSite, isBlankMessage}
 use Rattle.table.specs.Meaning.{Holding, SoundSite, SoundPlace, SoundMessage, Sound}
-use Rattle.table.specs.Parts.{lastsOf, stampsOf, ballotsOf, marksAt, marksOf, marksIn, timeRight, stampNew, requestSound, readingSound, queueEndBlank, backedBy, holdingSound, placeHeld, siteSound, messageSound, partsSound}
+use Rattle.table.specs.Parts.{lastsOf, stampsOf, ballotsOf, marksAt, marksOf, marksIn, timeRight, stampNew, usedSound, requestSound, readingSound, queueEndBlank, backedBy, holdingSound, placeHeld, siteSound, messageSound, partsSound}
 use Rattle.table.specs.Places.{noSite, siteAt, messageAt, placeAt, markAt, verdictAt, lastOf}
 use Rattle.table.specs.Sound.{requestAllowed, readingAllowed, queueExact, marksOk, marksOther, backed, soundTable}
 use Rattle.table.specs.declared.data.Table.{Table}
@@ -187,7 +187,7 @@ module _ (t : Table) where
         }
 
     place-mean : (p : ℕ) → p < 16 → SoundPlace t p
-    unfolding requestSound stampNew
+    unfolding usedSound stampNew
     place-mean p hp =
         let q = placeAt t p in
         let c1 : Bool = requestAllowed (t .count) q in
@@ -259,7 +259,7 @@ module _ (t : Table) where
 
   module _ (s : Sound t) where
     placed : (p : ℕ) → p < 16 → requestSound (t .count) lasts stamps (placeAt t p) p ≡ true
-    unfolding requestSound stampNew
+    unfolding usedSound stampNew
     placed p hp = by-eq (placeAt t p .stamp) 0
         (λ e. rw (eq-eqb _ _ e) (s .place p hp .free-request e))
         (λ ne. rw (ne-eqb _ _ ne) (both-true (s .place p hp .allowed ne) (both-true (s .place p hp .form ne) (both-true

@@ -7,7 +7,7 @@ use lib.Dec.{eqb, leb, ltb}
 use lib.IntN.{ℤ}
 use lib.ListN.{getD}
 use Rattle.kit.specs.Lists.{listed}
-use Rattle.kit.specs.Range.{all, implies}
+use Rattle.kit.specs.Range.{all, implies, one, number}
 use Rattle.majority.specs.Majority.{majority, blocking}
 use Rattle.readings.specs.Readings.{inRange, isZero}
 use Rattle.stamps.specs.Stamps.{timeOf, digitOf, issuedForm, wellFormed}
@@ -70,11 +70,13 @@ timeRight lasts stamp = leb (timeOf stamp) (getD lasts (digitOf stamp - 1) 0)
 unfoldable pub stampNew : List ℕ → ℕ → Bool
 stampNew stamps p = all p (λ q. not (eqb (getD stamps q 0) (getD stamps p 0)))
 
--- a free place is blank; a used one has an allowed request, and a stamp in form, in time and its own
-unfoldable pub requestSound : ℕ → List ℕ → List ℕ → Request → ℕ → Bool
-requestSound n lasts stamps q p =
-    cond (eqb (q .stamp) 0) (isBlankRequest q)
-    (requestAllowed n q && (issuedForm n (q .stamp) && (timeRight lasts (q .stamp) && stampNew stamps p)))
+-- a used place: an allowed request, and a stamp in form, in time and its own
+unfoldable pub usedSound : ℕ → List ℕ → List ℕ → Request → ℕ → Bool
+usedSound n lasts stamps q p = requestAllowed n q && (issuedForm n (q .stamp) && (timeRight lasts (q .stamp) && stampNew stamps p))
+
+-- a free place is blank
+abbrev pub requestSound : ℕ → List ℕ → List ℕ → Request → ℕ → Bool
+requestSound n lasts stamps q p = cond (eqb (q .stamp) 0) (isBlankRequest q) (usedSound n lasts stamps q p)
 
 -- ---- one site
 
@@ -89,6 +91,13 @@ readingSound n lasts s i = readingAllowed n s i && timeRight lasts (getD (s .sta
 -- the queue's places behind its end are 0
 unfoldable pub queueEndBlank : Site → Bool
 queueEndBlank s = all 16 (λ i. implies (leb (s .waiting) i) (eqb (queuedAt (s .queue) i) 0))
+
+-- a queue of which the first `waiting` places count, beside the votes: `queueExact` of the parts of a site
+abbrev pub queueHolds : ℕ → List ℕ → List Vote → Bool
+queueHolds waiting queue votes =
+    leb waiting 16
+    && (all waiting (λ i. ltb (queuedAt queue i) 16)
+    && all 16 (λ p. eqb (number waiting (λ i. eqb (queuedAt queue i) p)) (one (isDeferred (voteAt votes p .mark)))))
 
 -- a verdict is backed by that many own marks
 abbrev pub backedBy : ℕ → Marks → Verdict → Bool

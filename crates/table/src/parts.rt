@@ -13,10 +13,8 @@ ghost use Rattle.vote.specs.Data.{isDeferred, isOpen, isUnmarked, voteAt};
 ghost use Rattle.vote.specs.Queue.{queuedAt};
 ghost use Rattle.vote.specs.Voters.{areAmong, noVoters, votersOf};
 ghost use Rattle.table.specs.Blank.{blankVote, isBlankSite};
-ghost use Rattle.table.specs.Parts.{timeRight, stampNew, requestSound, valueRight, readingSound, queueEndBlank, backedBy, openRight, holdingSound, siteSound, messageSound};
-ghost use Rattle.table.specs.Sound.{queueExact};
+ghost use Rattle.table.specs.Parts.{timeRight, stampNew, usedSound, valueRight, queueHolds, backedBy, openRight, holdingSound, siteSound, messageSound};
 use crate::blank::is_blank_message;
-use crate::blank::is_blank_request;
 use crate::blank::is_blank_site;
 use crate::blank::is_blank_vote;
 use crate::data::Message;
@@ -56,7 +54,7 @@ fn is_different(a: u64, b: u64) -> bool
     a != b
 }
 
-// Whether the request at place p is sound.
+// Whether the request at a used place p is sound.
 pub(crate) fn is_request_sound<'a>(
     n: u8,
     lasts: &'a [u32; 7],
@@ -65,11 +63,8 @@ pub(crate) fn is_request_sound<'a>(
     p: usize,
 ) -> bool
     requires { ⌜ p < 16 ⌝ }
-    ensures { λ r. ⌜ r ≡ requestSound n (now (lasts .entry)) (now (stamps .entry)) q p ⌝ }
+    ensures { λ r. ⌜ r ≡ usedSound n (now (lasts .entry)) (now (stamps .entry)) q p ⌝ }
 {
-    if q.stamp == 0 {
-        return is_blank_request(q);
-    }
     if !is_request_allowed(n, q) {
         return false;
     }
@@ -97,7 +92,7 @@ fn is_next_sound(n: u8, lasts: &[u32; 7], last: u64, stamp: u64) -> bool
 }
 
 // Whether each stamp of a copy is well formed and in time.
-fn are_copied_in_time<'a>(n: u8, lasts: &'a [u32; 7], copied: &'a [u64; 24]) -> bool
+fn are_copied_in_time<'a, 'b>(n: u8, lasts: &'a [u32; 7], copied: &'b [u64; 24]) -> bool
     ensures { λ r. ⌜ r ≡ all 24 (λ i. wellFormed n (getD (now (copied .entry)) i 0) && timeRight (now (lasts .entry)) (getD (now (copied .entry)) i 0)) ⌝ }
 {
     let mut last: u64 = 0;
@@ -132,13 +127,18 @@ fn are_copied_right<'a>(copied: &'a [u64; 24], values: &'a [i32; 24]) -> bool
 }
 
 // Whether a site's copy is sound.
-fn is_copy_sound(n: u8, lasts: &[u32; 7], s: Site) -> bool
-    ensures { λ r. ⌜ r ≡ all 24 (readingSound n (now (lasts .entry)) s) ⌝ }
+fn is_copy_sound<'a, 'b>(
+    n: u8,
+    lasts: &'a [u32; 7],
+    copied: &'b [u64; 24],
+    values: &'b [i32; 24],
+) -> bool
+    ensures { λ r. ⌜ r ≡ (all 24 (λ i. wellFormed n (getD (now (copied .entry)) i 0) && timeRight (now (lasts .entry)) (getD (now (copied .entry)) i 0)) && all 24 (λ i. valueRight (getD (now (copied .entry)) i 0) (getD (now (values .entry)) i (pos 0)))) ⌝ }
 {
-    if !are_copied_in_time(n, lasts, &s.stamps) {
+    if !are_copied_in_time(n, lasts, copied) {
         return false;
     }
-    are_copied_right(&s.stamps, &s.values)
+    are_copied_right(copied, values)
 }
 
 // Whether place i of a queue is 0, if it lies behind the end.
@@ -152,11 +152,11 @@ fn is_blank_behind(waiting: u8, i: usize, place: u8) -> bool
 }
 
 // Whether the queue's places behind its end are 0.
-fn is_queue_end_blank(s: Site) -> bool
-    ensures { λ r. ⌜ r ≡ queueEndBlank s ⌝ }
+fn is_queue_end_blank(waiting: u8, queue: &[u8; 16]) -> bool
+    ensures { λ r. ⌜ r ≡ all 16 (λ i. implies (leb waiting i) (eqb (queuedAt (now (queue .entry)) i) 0)) ⌝ }
 {
     for i in 0..16 {
-        if !is_blank_behind(s.waiting, i, s.queue[i]) {
+        if !is_blank_behind(waiting, i, queue[i]) {
             return false;
         }
     }
@@ -164,9 +164,9 @@ fn is_queue_end_blank(s: Site) -> bool
 }
 
 // Whether each of the first w places of the queue names a request place; w is at most 16.
-fn are_places(queue: [u8; 16], w: usize) -> bool
+fn are_places(queue: &[u8; 16], w: usize) -> bool
     requires { ⌜ w ≤ 16 ⌝ }
-    ensures { λ r. ⌜ r ≡ all w (λ i. ltb (queuedAt queue i) 16) ⌝ }
+    ensures { λ r. ⌜ r ≡ all w (λ i. ltb (queuedAt (now (queue .entry)) i) 16) ⌝ }
 {
     for i in 0..w {
         if !is_place(queue[i]) {
@@ -183,9 +183,9 @@ fn is_place(p: u8) -> bool
 }
 
 // How often each place stands among the first w of the queue; w is at most 16.
-fn times_queued(queue: [u8; 16], w: usize) -> [u8; 16]
+fn times_queued(queue: &[u8; 16], w: usize) -> [u8; 16]
     requires { ⌜ w ≤ 16 ⌝ }
-    ensures { λ r. ⌜ r ≡ listed 16 (λ p. number w (λ i. eqb (queuedAt queue i) p)) ⌝ }
+    ensures { λ r. ⌜ r ≡ listed 16 (λ p. number w (λ i. eqb (queuedAt (now (queue .entry)) i) p)) ⌝ }
 {
     let mut times = [0u8; 16];
     for i in 0..w {
@@ -218,18 +218,16 @@ fn are_queued_right(times: [u8; 16], votes: [Vote; 16]) -> bool
 }
 
 // Whether the queue holds exactly the deferred requests, once each.
-fn is_queue_exact(s: Site) -> bool
-    ensures { λ r. ⌜ r ≡ queueExact s ⌝ }
+fn is_queue_exact(waiting: u8, queue: &[u8; 16], votes: [Vote; 16]) -> bool
+    ensures { λ r. ⌜ r ≡ queueHolds waiting (now (queue .entry)) votes ⌝ }
 {
-    let w = kit::index(s.waiting);
+    let w = kit::index(waiting);
     if 16 < w {
         return false;
     }
-    let queue = s.queue;
     if !are_places(queue, w) {
         return false;
     }
-    let votes = s.votes;
     are_queued_right(times_queued(queue, w), votes)
 }
 
@@ -417,25 +415,23 @@ pub(crate) fn is_site_sound<'a>(
     if !is_blank_beyond(n, me, s) {
         return false;
     }
-    if !is_copy_sound(n, lasts, s) {
+    if !is_copy_sound(n, lasts, &s.stamps, &s.values) {
         return false;
     }
-    if !is_queue_end_blank(s) {
-        return false;
-    }
-    if !is_queue_exact(s) {
-        return false;
-    }
-    let oks = s.oks;
-    if !are_known_among(&oks, agreed) {
-        return false;
-    }
-    let others = s.others;
-    if !are_known_among(&others, opposed) {
+    if !is_queue_end_blank(s.waiting, &s.queue) {
         return false;
     }
     let votes = s.votes;
-    are_places_held(n, me, agreed, opposed, stamps, votes, &oks, &others)
+    if !is_queue_exact(s.waiting, &s.queue, votes) {
+        return false;
+    }
+    if !are_known_among(&s.oks, agreed) {
+        return false;
+    }
+    if !are_known_among(&s.others, opposed) {
+        return false;
+    }
+    are_places_held(n, me, agreed, opposed, stamps, votes, &s.oks, &s.others)
 }
 
 // Whether a site that is not of the table is blank.

@@ -1,6 +1,6 @@
 -- `table::parts::is_copy_sound` meets its contract: the stamps, and then the values beside them.
 use borrow.Author.Needs.{needs}
-use Rattle.table.proofs.Runs.{copy-untimely, copy-valued}
+use Rattle.kit.proofs.Bools.{refusals}
 use Rattle.table.proofs.parts.is_copy_sound.Statement.{statement}
 use Rattle.table.proofs.parts.is_copy_sound.Tie as tie
 
@@ -9,6 +9,6 @@ is-copy-sound-spec =
     tie.close
     (tie.spec
     (λ c κs. search needs)
-    (λ c. search copy-untimely)
+    (λ c. search refusals)
     (λ c κs. search needs)
-    (λ c. search copy-valued))
+    (λ c. search refusals))
