@@ -9,6 +9,7 @@ mod Marked
 pub mod Meaning
 mod Putting
 mod Runs
+mod RowSets
 pub mod Same
 mod Whole
 pub mod FreshSound

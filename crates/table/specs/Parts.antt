@@ -10,6 +10,7 @@ use Rattle.kit.specs.Lists.{listed}
 use Rattle.kit.specs.Range.{all, implies, one, number}
 use Rattle.majority.specs.Majority.{majority, blocking}
 use Rattle.readings.specs.Readings.{inRange, isZero}
+use Rattle.sets.specs.Sets.{setOf}
 use Rattle.stamps.specs.Stamps.{timeOf, digitOf, issuedForm, wellFormed}
 use Rattle.vote.specs.Data.{isOk, isOther, isUnmarked, isDeferred, isOpen, voteAt, requestAt}
 use Rattle.vote.specs.Queue.{queuedAt}
@@ -56,6 +57,13 @@ marksOf ballots = listed 16 (marksAt ballots)
 -- the marks of all places, voter u of place p at 7 × p + u, with those of site k put in
 unfoldable pub marksPut : (Mark → Bool) → ℕ → List Vote → List Bool → List Bool
 marksPut f k votes known = listed 112 (λ i. cond (eqb (i % 7) k) (f (voteAt votes (i / 7) .mark)) (getD known i false))
+
+-- the voters of a row as a set, and those of each of the 16 places
+unfoldable pub rowSet : List Bool → ℕ
+rowSet row = setOf 7 (hasVoter row)
+
+unfoldable pub rowSets : List Bool → List ℕ
+rowSets known = listed 16 (λ p. rowSet (votersOf known p))
 
 abbrev pub marksIn : List Marks → ℕ → Marks
 marksIn marks p = getD marks p (record { oks = []; others = [] })

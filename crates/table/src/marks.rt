@@ -1,18 +1,22 @@
 // The own marks of all sites, gathered place by place.
 ghost use mathlib.Core.Path.{_≡_};
 ghost use mathlib.Core.List.{[]};
-ghost use Prim.Native.Nat.{_-_, _/_, _%_, _<_};
+ghost use Prim.Native.Nat.{_-_, _*_, _/_, _%_, _<_, _≤_};
 ghost use Rattle.stamps.specs.Stamps.{digitOf};
 ghost use lib.ListN.{length, getD};
 ghost use Rattle.kit.specs.Lists.{listed};
+ghost use Rattle.kit.specs.Range.{one};
 ghost use Rattle.vote.specs.Data.{isOk, isOther, voteAt};
-ghost use Rattle.table.specs.Parts.{lastsOf, timeRight, ballotsOf, marksPut};
+ghost use Rattle.vote.specs.Voters.{votersOf};
+ghost use Rattle.table.specs.Parts.{lastsOf, timeRight, ballotsOf, marksPut, rowSet, rowSets};
 use vote::consider::is_ok;
 use vote::consider::is_other;
 use vote::data::Mark;
 use vote::data::Site;
 use vote::data::Verdict;
 use vote::data::Vote;
+use vote::voters::has_voter;
+use vote::voters::is_known;
 
 // The last t of each site.
 pub fn lasts_of(sites: [Site; 7]) -> [u32; 7]
@@ -123,4 +127,52 @@ pub(crate) fn marked_of(ballots: [Ballot; 7]) -> Marked
         put_others(&mut others, k, votes);
     }
     Marked { oks, others }
+}
+
+// The weight where the test holds, else 0.
+fn weight_if(test: bool, weight: u32) -> u32
+    ensures { λ r. ⌜ r ≡ one test * weight ⌝ }
+    ensures small { λ r. ⌜ r ≤ weight ⌝ }
+{
+    if test {
+        return weight;
+    }
+    0
+}
+
+// The voters of a row as a set of site numbers.
+pub(crate) fn set_of(row: [bool; 7]) -> u32
+    ensures { λ r. ⌜ r ≡ rowSet row ⌝ }
+{
+    let mut set: u32 = 0;
+    let mut weight: u32 = 1;
+    for u in 0..7 {
+        set = set + weight_if(has_voter(row, u), weight);
+        weight = 2 * weight;
+    }
+    set
+}
+
+// The known voters of place p, as a set.
+fn set_at(known: &[bool; 112], p: u8) -> u32
+    ensures { λ r. ⌜ r ≡ rowSet (votersOf (now (known .entry)) p) ⌝ }
+{
+    let mut set: u32 = 0;
+    let mut weight: u32 = 1;
+    for u in 0..7 {
+        set = set + weight_if(is_known(known, p, u), weight);
+        weight = 2 * weight;
+    }
+    set
+}
+
+// Those of each of the 16 places.
+pub(crate) fn sets_of(known: &[bool; 112]) -> [u32; 16]
+    ensures { λ r. ⌜ r ≡ rowSets (now (known .entry)) ⌝ }
+{
+    let mut sets = [0u32; 16];
+    for p in 0..16 {
+        sets[p] = set_at(known, p as u8);
+    }
+    sets
 }

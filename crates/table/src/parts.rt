@@ -13,12 +13,13 @@ ghost use Rattle.vote.specs.Data.{isDeferred, isOpen, isUnmarked, voteAt};
 ghost use Rattle.vote.specs.Queue.{queuedAt};
 ghost use Rattle.vote.specs.Voters.{areAmong, noVoters, votersOf};
 ghost use Rattle.table.specs.Blank.{blankVote, isBlankSite};
-ghost use Rattle.table.specs.Parts.{timeRight, stampNew, usedSound, valueRight, queueHolds, backedBy, openRight, holdingSound, siteSound, messageSound};
+ghost use Rattle.table.specs.Parts.{rowSets, timeRight, stampNew, usedSound, valueRight, queueHolds, backedBy, openRight, holdingSound, siteSound, messageSound};
 use crate::blank::is_blank_message;
 use crate::blank::is_blank_site;
 use crate::blank::is_blank_vote;
 use crate::data::Message;
 use crate::marks::is_in_time;
+use crate::marks::set_of;
 use crate::requests::are_both;
 use crate::requests::is_request_allowed;
 use vote::consider::is_deferred;
@@ -30,7 +31,6 @@ use vote::data::Request;
 use vote::data::Site;
 use vote::data::Verdict;
 use vote::data::Vote;
-use vote::voters::are_all_known;
 use vote::voters::are_known_among;
 use vote::voters::count_at;
 use vote::voters::is_known;
@@ -468,22 +468,29 @@ fn are_two_sites(n: u8, a: u8, b: u8) -> bool
     a != b
 }
 
-// Whether what a message carries of place p agrees with the own marks of all sites.
+// Whether what a message carries of place p agrees with the own marks of all sites; `agreeing` and `opposing` are those of each place as
+// sets.
 fn is_content_right<'a>(
     n: u8,
     p: u8,
     agreed: &'a [bool; 112],
     opposed: &'a [bool; 112],
+    agreeing: &'a [u32; 16],
+    opposing: &'a [u32; 16],
     m: Message,
 ) -> bool
+    requires { ⌜ p < 16 ⌝ }
+    requires { ⌜ now agreeing ≡ rowSets (now agreed) ⌝ }
+    requires { ⌜ now opposing ≡ rowSets (now opposed) ⌝ }
     ensures { λ r. ⌜ r ≡ (areAmong (m .oks) (votersOf (now (agreed .entry)) p) && (areAmong (m .others) (votersOf (now (opposed .entry)) p) && backedBy n (record { oks = votersOf (now (agreed .entry)) p; others = votersOf (now (opposed .entry)) p }) (m .verdict))) ⌝ }
 {
+    let at = kit::index(p);
     let sent_oks = m.oks;
-    if !are_all_known(sent_oks, agreed, p) {
+    if !sets::is_inside(set_of(sent_oks), agreeing[at]) {
         return false;
     }
     let sent_others = m.others;
-    if !are_all_known(sent_others, opposed, p) {
+    if !sets::is_inside(set_of(sent_others), opposing[at]) {
         return false;
     }
     let v = m.verdict;
@@ -495,9 +502,13 @@ pub(crate) fn is_message_sound<'a>(
     n: u8,
     agreed: &'a [bool; 112],
     opposed: &'a [bool; 112],
+    agreeing: &'a [u32; 16],
+    opposing: &'a [u32; 16],
     stamps: &'a [u64; 16],
     m: Message,
 ) -> bool
+    requires { ⌜ now agreeing ≡ rowSets (now agreed) ⌝ }
+    requires { ⌜ now opposing ≡ rowSets (now opposed) ⌝ }
     ensures { λ r. ⌜ r ≡ messageSound n (listed 16 (λ p. record { oks = votersOf (now (agreed .entry)) p; others = votersOf (now (opposed .entry)) p })) (now (stamps .entry)) m ⌝ }
 {
     if !m.used {
@@ -509,5 +520,5 @@ pub(crate) fn is_message_sound<'a>(
     if !are_two_sites(n, m.from, m.to) {
         return false;
     }
-    is_content_right(n, m.request, agreed, opposed, m)
+    is_content_right(n, m.request, agreed, opposed, agreeing, opposing, m)
 }

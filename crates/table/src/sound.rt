@@ -14,6 +14,7 @@ use crate::fresh::is_site_count;
 use crate::marks::ballots_of;
 use crate::marks::lasts_of;
 use crate::marks::marked_of;
+use crate::marks::sets_of;
 use crate::parts::is_message_sound;
 use crate::parts::is_request_sound;
 use crate::parts::is_site_sound;
@@ -62,8 +63,18 @@ pub fn sound(t: Table) -> bool
             return false;
         }
     }
+    let agreeing = sets_of(&oks);
+    let opposing = sets_of(&others);
     for j in 0..64 {
-        if !is_message_sound(n, &oks, &others, &stamps, t.messages[j]) {
+        if !is_message_sound(
+            n,
+            &oks,
+            &others,
+            &agreeing,
+            &opposing,
+            &stamps,
+            t.messages[j],
+        ) {
             return false;
         }
     }

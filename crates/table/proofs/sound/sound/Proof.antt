@@ -21,10 +21,10 @@ abbrev μ-loop2 : tie.MeasureT-loop2
 μ-loop2 t n lasts stamps oks others k₀ k = 7 - k
 
 abbrev Inv-loop3 : tie.InvT-loop3
-Inv-loop3 t n stamps oks others j₀ j = Held 64 (messageRight t stamps oks others) j
+Inv-loop3 t n stamps oks others agreeing opposing j₀ j = Held 64 (messageRight t stamps oks others) j
 
 abbrev μ-loop3 : tie.MeasureT-loop3
-μ-loop3 t n stamps oks others j₀ j = 64 - j
+μ-loop3 t n stamps oks others agreeing opposing j₀ j = 64 - j
 
 loop-again : tie.Need-loop-again Inv-loop μ-loop Inv-loop2 μ-loop2 Inv-loop3 μ-loop3
 loop-again c = ⊎-elim (λ w. search (held-more, free-place, arith)) (λ w. search (held-more, used-place, arith)) (c .if2 .came)
@@ -33,7 +33,7 @@ loop2-again : tie.Need-loop2-again Inv-loop μ-loop Inv-loop2 μ-loop2 Inv-loop3
 loop2-again c = held-more (c .before .before .before .before .before .before .before .before .loop2 .inv) (omega arith) (c .before .is-site-sound .ensures) (c .if5 .left)
 
 loop3-again : tie.Need-loop3-again Inv-loop μ-loop Inv-loop2 μ-loop2 Inv-loop3 μ-loop3
-loop3-again c = held-more (c .before .before .before .before .before .before .before .loop3 .inv) (omega arith) (c .before .is-message-sound .ensures) (c .if6 .left)
+loop3-again c = held-more (c .before .before .before .before .before .before .before .before .before .loop3 .inv) (omega arith) (c .before .is-message-sound .ensures) (c .if6 .left)
 
 pub sound-spec : {M : Type 1} → statement M
 sound-spec =
@@ -73,6 +73,8 @@ sound-spec =
     (λ c. search (alls, needs))
     (λ c. search (alls, needs))
     loop2-again
+    (λ c κs. search needs)
+    (λ c κs. search needs)
     (λ c. search alls)
     (λ c. search (alls, needs))
     (λ c. search (alls, needs))
