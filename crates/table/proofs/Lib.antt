@@ -11,5 +11,6 @@ mod Putting
 mod Runs
 mod RowSets
 pub mod Same
+mod BlankSites
 mod Whole
 pub mod FreshSound

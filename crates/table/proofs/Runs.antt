@@ -110,6 +110,9 @@ module _ (n : ℕ) (lasts : List ℕ) (s : Site) where
       turned true false false = refl
       turned false b d = refl
 
+  pub reading-of : (i : ℕ) → stampAt i ≡ true → valueAt i ≡ true → readingSound n lasts s i ≡ true
+  reading-of i a b = reading-parts i ∙ both-true a b
+
   pub copy-means : {r : Bool} → r ≡ (all 24 stampAt && all 24 valueAt) → r ≡ all 24 (readingSound n lasts s)
   copy-means e =
       e ∙ same-test (all 24 stampAt && all 24 valueAt) (all 24 (readingSound n lasts s))

@@ -137,10 +137,14 @@ placeHeld n me marks stamps s p =
     (blankVote (voteAt (s .votes) p) && (noVoters (votersOf (s .oks) p) && noVoters (votersOf (s .others) p)))
 
 -- site number `me`: blank where it is not a site of the table; its copy, its queue, and what it holds of each place
+-- what is asked of each site
+unfoldable pub siteRest : ℕ → List ℕ → List Marks → List ℕ → ℕ → Site → Bool
+siteRest n lasts marks stamps me s =
+    all 24 (readingSound n lasts s) && (queueEndBlank s && (queueExact s && all 16 (placeHeld n me marks stamps s)))
+
+-- and a site that is not of the table is blank
 unfoldable pub siteSound : ℕ → List ℕ → List Marks → List ℕ → ℕ → Site → Bool
-siteSound n lasts marks stamps me s =
-    implies (leb n me) (isBlankSite s)
-    && (all 24 (readingSound n lasts s) && (queueEndBlank s && (queueExact s && all 16 (placeHeld n me marks stamps s))))
+siteSound n lasts marks stamps me s = implies (leb n me) (isBlankSite s) && siteRest n lasts marks stamps me s
 
 -- ---- one message
 

@@ -12,10 +12,9 @@ ghost use Rattle.stamps.specs.Stamps.{wellFormed};
 ghost use Rattle.vote.specs.Data.{isDeferred, isOpen, isUnmarked, voteAt};
 ghost use Rattle.vote.specs.Queue.{queuedAt};
 ghost use Rattle.vote.specs.Voters.{areAmong, noVoters, votersOf};
-ghost use Rattle.table.specs.Blank.{blankVote, isBlankSite};
-ghost use Rattle.table.specs.Parts.{rowSets, timeRight, stampNew, usedSound, valueRight, queueHolds, backedBy, openRight, holdingSound, siteSound, messageSound};
+ghost use Rattle.table.specs.Blank.{blankVote};
+ghost use Rattle.table.specs.Parts.{rowSets, timeRight, stampNew, usedSound, valueRight, queueHolds, backedBy, openRight, holdingSound, siteRest, messageSound};
 use crate::blank::is_blank_message;
-use crate::blank::is_blank_site;
 use crate::blank::is_blank_vote;
 use crate::data::Message;
 use crate::marks::is_in_time;
@@ -400,7 +399,7 @@ fn are_places_held<'a, 'b>(
     true
 }
 
-// Whether site number `me` is sound.
+// Whether site number `me` of the table is sound.
 pub(crate) fn is_site_sound<'a>(
     n: u8,
     lasts: &'a [u32; 7],
@@ -410,11 +409,8 @@ pub(crate) fn is_site_sound<'a>(
     me: usize,
     s: Site,
 ) -> bool
-    ensures { λ r. ⌜ r ≡ siteSound n (now (lasts .entry)) (listed 16 (λ p. record { oks = votersOf (now (agreed .entry)) p; others = votersOf (now (opposed .entry)) p })) (now (stamps .entry)) me s ⌝ }
+    ensures { λ r. ⌜ r ≡ siteRest n (now (lasts .entry)) (listed 16 (λ p. record { oks = votersOf (now (agreed .entry)) p; others = votersOf (now (opposed .entry)) p })) (now (stamps .entry)) me s ⌝ }
 {
-    if !is_blank_beyond(n, me, s) {
-        return false;
-    }
     if !is_copy_sound(n, lasts, &s.stamps, &s.values) {
         return false;
     }
@@ -432,16 +428,6 @@ pub(crate) fn is_site_sound<'a>(
         return false;
     }
     are_places_held(n, me, agreed, opposed, stamps, votes, &s.oks, &s.others)
-}
-
-// Whether a site that is not of the table is blank.
-fn is_blank_beyond(n: u8, me: usize, s: Site) -> bool
-    ensures { λ r. ⌜ r ≡ implies (leb n me) (isBlankSite s) ⌝ }
-{
-    if kit::index(n) <= me {
-        return is_blank_site(s);
-    }
-    true
 }
 
 // Whether place p is one of the 16 and holds a request.

@@ -9,6 +9,7 @@ ghost use Rattle.table.specs.Sound.{soundTable};
 ghost use Rattle.vote.specs.Data.{requestAt};
 ghost use Rattle.vote.specs.Voters.{votersOf};
 use crate::blank::is_blank_request;
+use crate::blank::is_blank_site;
 use crate::data::Table;
 use crate::fresh::is_site_count;
 use crate::marks::ballots_of;
@@ -59,8 +60,14 @@ pub fn sound(t: Table) -> bool
     let oks = marked.oks;
     let others = marked.others;
     for k in 0..7 {
-        if !is_site_sound(n, &lasts, &oks, &others, &stamps, k, t.sites[k]) {
-            return false;
+        if kit::index(n) <= k {
+            if !is_blank_site(t.sites[k]) {
+                return false;
+            }
+        } else {
+            if !is_site_sound(n, &lasts, &oks, &others, &stamps, k, t.sites[k]) {
+                return false;
+            }
         }
     }
     let agreeing = sets_of(&oks);

@@ -4,6 +4,7 @@ use Prim.Native.Nat.{_-_}
 use native.Mathlib.Omega.{arith}
 use borrow.Author.Needs.{needs}
 use Rattle.kit.proofs.Loops.{Held, held-none, held-more, alls}
+use Rattle.table.proofs.BlankSites.{unused-site, used-site}
 use Rattle.table.proofs.Whole.{requestRight, siteRight, messageRight, free-place, used-place, no-count, request-wrong, site-wrong, message-wrong, all-right}
 use Rattle.table.proofs.sound.sound.Statement.{statement}
 use Rattle.table.proofs.sound.sound.Tie as tie
@@ -30,10 +31,10 @@ loop-again : tie.Need-loop-again Inv-loop μ-loop Inv-loop2 μ-loop2 Inv-loop3 �
 loop-again c = ⊎-elim (λ w. search (held-more, free-place, arith)) (λ w. search (held-more, used-place, arith)) (c .if2 .came)
 
 loop2-again : tie.Need-loop2-again Inv-loop μ-loop Inv-loop2 μ-loop2 Inv-loop3 μ-loop3
-loop2-again c = held-more (c .before .before .before .before .before .before .before .before .loop2 .inv) (omega arith) (c .before .is-site-sound .ensures) (c .if5 .left)
+loop2-again c = ⊎-elim (λ w. search (held-more, unused-site, arith)) (λ w. search (held-more, used-site, arith)) (c .if5 .came)
 
 loop3-again : tie.Need-loop3-again Inv-loop μ-loop Inv-loop2 μ-loop2 Inv-loop3 μ-loop3
-loop3-again c = held-more (c .before .before .before .before .before .before .before .before .before .loop3 .inv) (omega arith) (c .before .is-message-sound .ensures) (c .if6 .left)
+loop3-again c = held-more (c .before .before .before .before .before .before .before .before .before .loop3 .inv) (omega arith) (c .before .is-message-sound .ensures) (c .if8 .left)
 
 pub sound-spec : {M : Type 1} → statement M
 sound-spec =
@@ -66,10 +67,15 @@ sound-spec =
     (λ c κs. search needs)
     (λ c κs. search needs)
     (λ c. search alls)
+    (λ c κs. search needs)
     (λ c. search (alls, needs))
     (λ c. search (alls, needs))
     (λ c κs. search needs)
-    (λ c. search site-wrong)
+    (λ c. search (site-wrong, unused-site))
+    (λ c. search (alls, needs))
+    (λ c. search (alls, needs))
+    (λ c κs. search needs)
+    (λ c. search (site-wrong, used-site))
     (λ c. search (alls, needs))
     (λ c. search (alls, needs))
     loop2-again
