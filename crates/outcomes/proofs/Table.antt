@@ -26,14 +26,8 @@ use Rattle.table.proofs.fresh.fresh.Kinds as fresh-kinds
 use Rattle.table.proofs.fresh.fresh.Reads as fresh-reads
 use Rattle.table.proofs.marks.lasts_of.Kinds as lasts-of-kinds
 use Rattle.table.proofs.marks.lasts_of.Reads as lasts-of-reads
-use Rattle.table.proofs.marks.is_time_right.Kinds as is-time-right-kinds
-use Rattle.table.proofs.marks.is_time_right.Reads as is-time-right-reads
 use Rattle.table.proofs.marks.ballots_of.Kinds as ballots-of-kinds
 use Rattle.table.proofs.marks.ballots_of.Reads as ballots-of-reads
-use Rattle.table.proofs.marks.marks_at.Kinds as marks-at-kinds
-use Rattle.table.proofs.marks.marks_at.Reads as marks-at-reads
-use Rattle.table.proofs.marks.marks_of.Kinds as marks-of-kinds
-use Rattle.table.proofs.marks.marks_of.Reads as marks-of-reads
 use Rattle.table.proofs.requests.are_sets_allowed.Kinds as are-sets-allowed-kinds
 use Rattle.table.proofs.requests.are_sets_allowed.Reads as are-sets-allowed-reads
 use Rattle.table.proofs.requests.are_base_stamps_allowed.Kinds as are-base-stamps-allowed-kinds
@@ -93,21 +87,9 @@ one-fresh κs a r r′ w w′ p q = (as-one p q, refl)
 pub one-lasts-of : OneOutcome lasts-of-kinds.ps lasts-of-kinds.r lasts-of-reads.Learnt
 one-lasts-of κs a r r′ w w′ p q = (as-one p q, refl)
 
--- table::marks::is_time_right
-pub one-is-time-right : OneOutcome is-time-right-kinds.ps is-time-right-kinds.r is-time-right-reads.Learnt
-one-is-time-right κs a r r′ w w′ p q = (as-one p q, refl)
-
 -- table::marks::ballots_of
 pub one-ballots-of : OneOutcome ballots-of-kinds.ps ballots-of-kinds.r ballots-of-reads.Learnt
 one-ballots-of κs a r r′ w w′ p q = (as-one p q, refl)
-
--- table::marks::marks_at
-pub one-marks-at : OneOutcome marks-at-kinds.ps marks-at-kinds.r marks-at-reads.Learnt
-one-marks-at κs a r r′ w w′ p q = (as-one p q, refl)
-
--- table::marks::marks_of
-pub one-marks-of : OneOutcome marks-of-kinds.ps marks-of-kinds.r marks-of-reads.Learnt
-one-marks-of κs a r r′ w w′ p q = (as-one p q, refl)
 
 -- table::requests::are_sets_allowed
 pub one-are-sets-allowed : OneOutcome are-sets-allowed-kinds.ps are-sets-allowed-kinds.r are-sets-allowed-reads.Learnt

@@ -14,7 +14,7 @@ use Rattle.kit.proofs.Bools.{and-refuse, and-passed}
 use Rattle.readings.specs.Readings.{inRange, isZero}
 use Rattle.vote.specs.declared.data.Vote.{Vote}
 use Rattle.table.specs.Blank.{blankVote}
-use Rattle.table.specs.Parts.{readingRight}
+use Rattle.table.specs.Parts.{valueRight}
 
 -- ---- `if x != y { return false; }`
 
@@ -125,12 +125,8 @@ module _ {r : Bool} {v : ℤ} where
   pub zero-means : r ≡ isZero (toZ w32 (ofZ w32 v)) → SFits w32 v → r ≡ isZero v
   zero-means e f = rw (toZ-ofZ f) at e
 
-  pub reading-means : (n stamp : ℕ) → r ≡ readingRight n stamp (toZ w32 (ofZ w32 v)) → SFits w32 v → r ≡ readingRight n stamp v
-  reading-means n stamp e f = rw (toZ-ofZ f) at e
-
-  pub timed-means
-      : (n stamp : ℕ) (b : Bool) → r ≡ (readingRight n stamp (toZ w32 (ofZ w32 v)) && b) → SFits w32 v → r ≡ (readingRight n stamp v && b)
-  timed-means n stamp b e f = rw (toZ-ofZ f) at e
+  pub value-means : (stamp : ℕ) → r ≡ valueRight stamp (toZ w32 (ofZ w32 v)) → SFits w32 v → r ≡ valueRight stamp v
+  value-means stamp e f = rw (toZ-ofZ f) at e
 
   pub range-means : r ≡ inRange (toZ w32 (ofZ w32 v)) → SFits w32 v → r ≡ inRange v
   range-means e f = rw (toZ-ofZ f) at e

@@ -7,5 +7,10 @@ pub mod Queues
 pub mod Backing
 mod Marked
 pub mod Meaning
+mod Putting
+mod Runs
+mod RowSets
 pub mod Same
+mod BlankSites
+mod Whole
 pub mod FreshSound

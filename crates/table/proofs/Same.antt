@@ -27,7 +27,7 @@ use Rattle.vote.specs.declared.data.Verdict.the-variants as verdict
 use Rattle.vote.specs.declared.data.Vote.{Vote}
 use Rattle.table.specs.Blank.{blankVote, isBlankRequest, holdsNothing, isBlankSite, isBlankMessage}
 use Rattle.table.specs.Meaning.{Holding, SoundSite, SoundPlace, SoundMessage, Sound}
-use Rattle.table.specs.Parts.{lastsOf, stampsOf, ballotsOf, marksAt, marksOf, marksIn, timeRight, stampNew, requestSound, readingSound, queueEndBlank, backedBy, holdingSound, placeHeld, siteSound, messageSound, partsSound}
+use Rattle.table.specs.Parts.{lastsOf, stampsOf, ballotsOf, marksAt, marksOf, marksIn, timeRight, stampNew, usedSound, requestSound, readingSound, queueEndBlank, backedBy, holdingSound, placeHeld, siteRest, siteSound, messageSound, partsSound}
 use Rattle.table.specs.Places.{noSite, siteAt, messageAt, placeAt, markAt, verdictAt, lastOf}
 use Rattle.table.specs.Sound.{requestAllowed, readingAllowed, queueExact, marksOk, marksOther, backed, soundTable}
 use Rattle.table.specs.declared.data.Table.{Table}
@@ -107,7 +107,7 @@ module _ (t : Table) where
       (ss : (k : ℕ) → k < 7 → siteSound (t .count) lasts marks stamps k (siteAt t k) ≡ true)
       (ms : (j : ℕ) → j < 64 → messageSound (t .count) marks stamps (messageAt t j) ≡ true) where
     held : (k p : ℕ) → k < 7 → p < 16 → placeHeld (t .count) k marks stamps (siteAt t k) p ≡ true
-    unfolding siteSound
+    unfolding siteSound siteRest
     held k p hk hp =
         all-at (placeHeld (t .count) k marks stamps (siteAt t k)) 16 p
         (and-right (queueExact (siteAt t k)) _ (and-right (queueEndBlank (siteAt t k)) _ (and-right (all 24 (readingSound (t .count) lasts (siteAt t k))) _ (and-right (implies (leb (t .count) k) (isBlankSite (siteAt t k))) _ (ss k hk))))) hp
@@ -159,7 +159,7 @@ module _ (t : Table) where
         (implies (eqb (getD stamps p 0) 0) (holdsNothing s p)) (held k p hk hp)) (eq-eqb _ _ (stamp-at p hp ∙ e))
 
     site-mean : (k : ℕ) → k < 7 → SoundSite t k
-    unfolding siteSound readingSound readingAllowed queueEndBlank
+    unfolding siteSound siteRest readingSound readingAllowed queueEndBlank
     site-mean k hk =
         let s : Site = siteAt t k in
         let c1 : Bool = implies (leb (t .count) k) (isBlankSite s) in
@@ -187,7 +187,7 @@ module _ (t : Table) where
         }
 
     place-mean : (p : ℕ) → p < 16 → SoundPlace t p
-    unfolding requestSound stampNew
+    unfolding usedSound stampNew
     place-mean p hp =
         let q = placeAt t p in
         let c1 : Bool = requestAllowed (t .count) q in
@@ -259,7 +259,7 @@ module _ (t : Table) where
 
   module _ (s : Sound t) where
     placed : (p : ℕ) → p < 16 → requestSound (t .count) lasts stamps (placeAt t p) p ≡ true
-    unfolding requestSound stampNew
+    unfolding usedSound stampNew
     placed p hp = by-eq (placeAt t p .stamp) 0
         (λ e. rw (eq-eqb _ _ e) (s .place p hp .free-request e))
         (λ ne. rw (ne-eqb _ _ ne) (both-true (s .place p hp .allowed ne) (both-true (s .place p hp .form ne) (both-true
@@ -283,7 +283,7 @@ module _ (t : Table) where
         (implying _ (λ e. s .place p hp .free-held (sym (stamp-at p hp) ∙ eqb-true _ _ e) k hk))
 
     sited : (k : ℕ) → k < 7 → siteSound (t .count) lasts marks stamps k (siteAt t k) ≡ true
-    unfolding siteSound readingSound readingAllowed queueEndBlank
+    unfolding siteSound siteRest readingSound readingAllowed queueEndBlank
     sited k hk =
         let q = s .site k hk in
         both-true (implying _ (λ e. q .unused (leb-true _ _ e)))

@@ -1,19 +1,21 @@
 -- How soundness is computed: place by place and site by site, with the sites' own marks and last t's gathered first. A reader of `soundTable`
 -- need not read this: the proofs show that both are the same.
-use Prim.Native.Nat.{ℕ, _-_}
+use Prim.Native.Nat.{ℕ, _-_, _/_, _%_}
 use mathlib.Core.Bool.{Bool, true, false, not, _&&_, _||_, cond}
 use mathlib.Core.List.{List, []}
 use lib.Dec.{eqb, leb, ltb}
 use lib.IntN.{ℤ}
 use lib.ListN.{getD}
 use Rattle.kit.specs.Lists.{listed}
-use Rattle.kit.specs.Range.{all, implies}
+use Rattle.kit.specs.Range.{all, implies, one, number}
 use Rattle.majority.specs.Majority.{majority, blocking}
 use Rattle.readings.specs.Readings.{inRange, isZero}
+use Rattle.sets.specs.Sets.{setOf}
 use Rattle.stamps.specs.Stamps.{timeOf, digitOf, issuedForm, wellFormed}
 use Rattle.vote.specs.Data.{isOk, isOther, isUnmarked, isDeferred, isOpen, voteAt, requestAt}
 use Rattle.vote.specs.Queue.{queuedAt}
 use Rattle.vote.specs.Voters.{votersOf, votersFor, hasVoter, areAmong, noVoters, votersIn}
+use Rattle.vote.specs.declared.data.Mark.{Mark}
 use Rattle.vote.specs.declared.data.Request.{Request}
 use Rattle.vote.specs.declared.data.Site.{Site}
 use Rattle.vote.specs.declared.data.Verdict.{Verdict}
@@ -52,6 +54,17 @@ marksAt ballots p = record {
 unfoldable pub marksOf : List Ballot → List Marks
 marksOf ballots = listed 16 (marksAt ballots)
 
+-- the marks of all places, voter u of place p at 7 × p + u, with those of site k put in
+unfoldable pub marksPut : (Mark → Bool) → ℕ → List Vote → List Bool → List Bool
+marksPut f k votes known = listed 112 (λ i. cond (eqb (i % 7) k) (f (voteAt votes (i / 7) .mark)) (getD known i false))
+
+-- the voters of a row as a set, and those of each of the 16 places
+unfoldable pub rowSet : List Bool → ℕ
+rowSet row = setOf 7 (hasVoter row)
+
+unfoldable pub rowSets : List Bool → List ℕ
+rowSets known = listed 16 (λ p. rowSet (votersOf known p))
+
 abbrev pub marksIn : List Marks → ℕ → Marks
 marksIn marks p = getD marks p (record { oks = []; others = [] })
 
@@ -65,17 +78,19 @@ timeRight lasts stamp = leb (timeOf stamp) (getD lasts (digitOf stamp - 1) 0)
 unfoldable pub stampNew : List ℕ → ℕ → Bool
 stampNew stamps p = all p (λ q. not (eqb (getD stamps q 0) (getD stamps p 0)))
 
--- a free place is blank; a used one has an allowed request, and a stamp in form, in time and its own
-unfoldable pub requestSound : ℕ → List ℕ → List ℕ → Request → ℕ → Bool
-requestSound n lasts stamps q p =
-    cond (eqb (q .stamp) 0) (isBlankRequest q)
-    (requestAllowed n q && (issuedForm n (q .stamp) && (timeRight lasts (q .stamp) && stampNew stamps p)))
+-- a used place: an allowed request, and a stamp in form, in time and its own
+unfoldable pub usedSound : ℕ → List ℕ → List ℕ → Request → ℕ → Bool
+usedSound n lasts stamps q p = requestAllowed n q && (issuedForm n (q .stamp) && (timeRight lasts (q .stamp) && stampNew stamps p))
+
+-- a free place is blank
+abbrev pub requestSound : ℕ → List ℕ → List ℕ → Request → ℕ → Bool
+requestSound n lasts stamps q p = cond (eqb (q .stamp) 0) (isBlankRequest q) (usedSound n lasts stamps q p)
 
 -- ---- one site
 
--- a reading: its stamp well formed, its value in range, and 0 at stamp 0
-unfoldable pub readingRight : ℕ → ℕ → ℤ → Bool
-readingRight n stamp value = wellFormed n stamp && (inRange value && implies (eqb stamp 0) (isZero value))
+-- a value: 0 at stamp 0, and else in range
+unfoldable pub valueRight : ℕ → ℤ → Bool
+valueRight stamp value = cond (eqb stamp 0) (isZero value) (inRange value)
 
 -- its reading of item i
 unfoldable pub readingSound : ℕ → List ℕ → Site → ℕ → Bool
@@ -84,6 +99,13 @@ readingSound n lasts s i = readingAllowed n s i && timeRight lasts (getD (s .sta
 -- the queue's places behind its end are 0
 unfoldable pub queueEndBlank : Site → Bool
 queueEndBlank s = all 16 (λ i. implies (leb (s .waiting) i) (eqb (queuedAt (s .queue) i) 0))
+
+-- a queue of which the first `waiting` places count, beside the votes: `queueExact` of the parts of a site
+abbrev pub queueHolds : ℕ → List ℕ → List Vote → Bool
+queueHolds waiting queue votes =
+    leb waiting 16
+    && (all waiting (λ i. ltb (queuedAt queue i) 16)
+    && all 16 (λ p. eqb (number waiting (λ i. eqb (queuedAt queue i) p)) (one (isDeferred (voteAt votes p .mark)))))
 
 -- a verdict is backed by that many own marks
 abbrev pub backedBy : ℕ → Marks → Verdict → Bool
@@ -115,10 +137,14 @@ placeHeld n me marks stamps s p =
     (blankVote (voteAt (s .votes) p) && (noVoters (votersOf (s .oks) p) && noVoters (votersOf (s .others) p)))
 
 -- site number `me`: blank where it is not a site of the table; its copy, its queue, and what it holds of each place
+-- what is asked of each site
+unfoldable pub siteRest : ℕ → List ℕ → List Marks → List ℕ → ℕ → Site → Bool
+siteRest n lasts marks stamps me s =
+    all 24 (readingSound n lasts s) && (queueEndBlank s && (queueExact s && all 16 (placeHeld n me marks stamps s)))
+
+-- and a site that is not of the table is blank
 unfoldable pub siteSound : ℕ → List ℕ → List Marks → List ℕ → ℕ → Site → Bool
-siteSound n lasts marks stamps me s =
-    implies (leb n me) (isBlankSite s)
-    && (all 24 (readingSound n lasts s) && (queueEndBlank s && (queueExact s && all 16 (placeHeld n me marks stamps s))))
+siteSound n lasts marks stamps me s = implies (leb n me) (isBlankSite s) && siteRest n lasts marks stamps me s
 
 -- ---- one message
 

@@ -20,8 +20,8 @@ fn same(a: u64, b: u64) -> bool
 }
 
 // Whether each of the 24 stamps is 0.
-pub fn are_zero_stamps(l: [u64; 24]) -> bool
-    ensures { λ r. ⌜ r ≡ zeros 24 l ⌝ }
+pub fn are_zero_stamps(l: &[u64; 24]) -> bool
+    ensures { λ r. ⌜ r ≡ zeros 24 (now (l .entry)) ⌝ }
 {
     for i in 0..24 {
         if !same(l[i], 0) {
@@ -32,8 +32,8 @@ pub fn are_zero_stamps(l: [u64; 24]) -> bool
 }
 
 // Whether each of the 16 places of a queue is 0.
-pub fn are_zero_places(l: [u8; 16]) -> bool
-    ensures { λ r. ⌜ r ≡ zeros 16 l ⌝ }
+pub fn are_zero_places(l: &[u8; 16]) -> bool
+    ensures { λ r. ⌜ r ≡ zeros 16 (now (l .entry)) ⌝ }
 {
     for i in 0..16 {
         if !same(kit::wide(l[i]), 0) {
@@ -44,8 +44,8 @@ pub fn are_zero_places(l: [u8; 16]) -> bool
 }
 
 // Whether each of the 24 values is 0.
-pub fn are_zero_values(l: [i32; 24]) -> bool
-    ensures { λ r. ⌜ r ≡ zeroValues l ⌝ }
+pub fn are_zero_values(l: &[i32; 24]) -> bool
+    ensures { λ r. ⌜ r ≡ zeroValues (now (l .entry)) ⌝ }
 {
     for i in 0..24 {
         if !readings::is_zero(l[i]) {
@@ -77,12 +77,10 @@ pub fn is_blank_request(q: Request) -> bool
     if q.update != 0 {
         return false;
     }
-    let stamps = q.stamps;
-    if !are_zero_stamps(stamps) {
+    if !are_zero_stamps(&q.stamps) {
         return false;
     }
-    let values = q.values;
-    are_zero_values(values)
+    are_zero_values(&q.values)
 }
 
 // Whether a site holds nothing of the request at place p.
@@ -123,16 +121,13 @@ pub fn is_blank_site(s: Site) -> bool
     if s.last != 0 {
         return false;
     }
-    let stamps = s.stamps;
-    if !are_zero_stamps(stamps) {
+    if !are_zero_stamps(&s.stamps) {
         return false;
     }
-    let values = s.values;
-    if !are_zero_values(values) {
+    if !are_zero_values(&s.values) {
         return false;
     }
-    let queue = s.queue;
-    if !are_zero_places(queue) {
+    if !are_zero_places(&s.queue) {
         return false;
     }
     if s.waiting != 0 {

@@ -1,23 +1,22 @@
 // The own marks of all sites, gathered place by place.
 ghost use mathlib.Core.Path.{_≡_};
 ghost use mathlib.Core.List.{[]};
-ghost use Prim.Native.Nat.{_-_, _/_, _%_};
+ghost use Prim.Native.Nat.{_-_, _*_, _/_, _%_, _<_, _≤_};
 ghost use Rattle.stamps.specs.Stamps.{digitOf};
-ghost use lib.ListN.{getD};
+ghost use lib.ListN.{length, getD};
 ghost use Rattle.kit.specs.Lists.{listed};
+ghost use Rattle.kit.specs.Range.{one};
 ghost use Rattle.vote.specs.Data.{isOk, isOther, voteAt};
-ghost use Rattle.table.specs.Parts.{lastsOf, timeRight, ballotsOf, marksAt, marksOf};
+ghost use Rattle.vote.specs.Voters.{votersOf};
+ghost use Rattle.table.specs.Parts.{lastsOf, timeRight, ballotsOf, marksPut, rowSet, rowSets};
 use vote::consider::is_ok;
 use vote::consider::is_other;
 use vote::data::Mark;
 use vote::data::Site;
 use vote::data::Verdict;
 use vote::data::Vote;
-use vote::voters::no_voters;
-use vote::voters::place_at;
-use vote::voters::put_voter;
-use vote::voters::voter_at;
-use vote::voting::vote_at;
+use vote::voters::has_voter;
+use vote::voters::is_known;
 
 // The last t of each site.
 pub fn lasts_of(sites: [Site; 7]) -> [u32; 7]
@@ -56,13 +55,6 @@ pub(crate) fn is_in_time(lasts: &[u32; 7], stamp: u64) -> bool
     stamps::time_of(stamp) <= wide_time(lasts[k])
 }
 
-// The same, the last t's by value.
-pub fn is_time_right(lasts: [u32; 7], stamp: u64) -> bool
-    ensures { λ r. ⌜ r ≡ timeRight lasts stamp ⌝ }
-{
-    is_in_time(&lasts, stamp)
-}
-
 // What one site has said of each of the 16 places.
 pub struct Ballot {
     pub votes: [Vote; 16],
@@ -91,48 +83,35 @@ pub struct Marks {
     pub others: [bool; 7],
 }
 
-// The own marks of place p.
-pub fn marks_at(ballots: [Ballot; 7], p: u8) -> Marks
-    ensures { λ r. ⌜ r ≡ marksAt ballots p ⌝ }
-{
-    let mut oks = no_voters();
-    let mut others = no_voters();
-    for u in 0..7 {
-        let m = mark_in(ballots[u], p);
-        let more_oks = put_voter(oks, u, is_ok(m));
-        oks = more_oks;
-        let more_others = put_voter(others, u, is_other(m));
-        others = more_others;
-    }
-    Marks { oks, others }
-}
-
-fn mark_in(b: Ballot, p: u8) -> Mark
-    ensures { λ r. ⌜ r ≡ voteAt (b .votes) p .mark ⌝ }
-{
-    let votes = b.votes;
-    let v = vote_at(votes, p);
-    v.mark
-}
-
-// The own marks of each of the 16 places.
-pub fn marks_of(ballots: [Ballot; 7]) -> [Marks; 16]
-    ensures { λ r. ⌜ r ≡ marksOf ballots ⌝ }
-{
-    let oks = no_voters();
-    let others = no_voters();
-    let mut marks = [Marks { oks, others }; 16];
-    for p in 0..16 {
-        let m = marks_at(ballots, p as u8);
-        marks[p] = m;
-    }
-    marks
-}
-
 // The own marks of all places, kept as a site keeps the voters that it knows.
 pub struct Marked {
     pub oks: [bool; 112],
     pub others: [bool; 112],
+}
+
+// The marks of site k put among those of all sites: which are OK, and which DR or REJ.
+fn put_oks(oks: &mut [bool; 112], k: usize, votes: [Vote; 16])
+    requires { ⌜ k < 7 ⌝ }
+    requires { ⌜ length (now oks) ≡ 112 ⌝ }
+    ensures { λ _. ⌜ now (oks .exit) ≡ marksPut isOk k votes (now (oks .entry)) ⌝ }
+{
+    for p in 0..16 {
+        let v = votes[p];
+        let m = v.mark;
+        oks[7 * p + k] = is_ok(m);
+    }
+}
+
+fn put_others(others: &mut [bool; 112], k: usize, votes: [Vote; 16])
+    requires { ⌜ k < 7 ⌝ }
+    requires { ⌜ length (now others) ≡ 112 ⌝ }
+    ensures { λ _. ⌜ now (others .exit) ≡ marksPut isOther k votes (now (others .entry)) ⌝ }
+{
+    for p in 0..16 {
+        let v = votes[p];
+        let m = v.mark;
+        others[7 * p + k] = is_other(m);
+    }
 }
 
 pub(crate) fn marked_of(ballots: [Ballot; 7]) -> Marked
@@ -141,10 +120,59 @@ pub(crate) fn marked_of(ballots: [Ballot; 7]) -> Marked
 {
     let mut oks = [false; 112];
     let mut others = [false; 112];
-    for i in 0..112 {
-        let m = mark_in(ballots[voter_at(i)], place_at(i) as u8);
-        oks[i] = is_ok(m);
-        others[i] = is_other(m);
+    for k in 0..7 {
+        let b = ballots[k];
+        let votes = b.votes;
+        put_oks(&mut oks, k, votes);
+        put_others(&mut others, k, votes);
     }
     Marked { oks, others }
+}
+
+// The weight where the test holds, else 0.
+fn weight_if(test: bool, weight: u32) -> u32
+    ensures { λ r. ⌜ r ≡ one test * weight ⌝ }
+    ensures small { λ r. ⌜ r ≤ weight ⌝ }
+{
+    if test {
+        return weight;
+    }
+    0
+}
+
+// The voters of a row as a set of site numbers.
+pub(crate) fn set_of(row: [bool; 7]) -> u32
+    ensures { λ r. ⌜ r ≡ rowSet row ⌝ }
+{
+    let mut set: u32 = 0;
+    let mut weight: u32 = 1;
+    for u in 0..7 {
+        set = set + weight_if(has_voter(row, u), weight);
+        weight = 2 * weight;
+    }
+    set
+}
+
+// The known voters of place p, as a set.
+fn set_at(known: &[bool; 112], p: u8) -> u32
+    ensures { λ r. ⌜ r ≡ rowSet (votersOf (now (known .entry)) p) ⌝ }
+{
+    let mut set: u32 = 0;
+    let mut weight: u32 = 1;
+    for u in 0..7 {
+        set = set + weight_if(is_known(known, p, u), weight);
+        weight = 2 * weight;
+    }
+    set
+}
+
+// Those of each of the 16 places.
+pub(crate) fn sets_of(known: &[bool; 112]) -> [u32; 16]
+    ensures { λ r. ⌜ r ≡ rowSets (now (known .entry)) ⌝ }
+{
+    let mut sets = [0u32; 16];
+    for p in 0..16 {
+        sets[p] = set_at(known, p as u8);
+    }
+    sets
 }

@@ -3,22 +3,23 @@ ghost use mathlib.Core.Path.{_≡_};
 ghost use mathlib.Core.Bool.{true, not, _&&_, cond};
 ghost use Prim.Native.Nat.{_<_, _≤_};
 ghost use lib.Dec.{eqb, leb, ltb};
+ghost use lib.IntN.{pos};
 ghost use lib.ListN.{getD};
 ghost use Rattle.kit.specs.Lists.{listed};
 ghost use Rattle.kit.specs.Range.{all, implies, one, number};
 ghost use Rattle.majority.specs.Majority.{majority, blocking};
+ghost use Rattle.stamps.specs.Stamps.{wellFormed};
 ghost use Rattle.vote.specs.Data.{isDeferred, isOpen, isUnmarked, voteAt};
 ghost use Rattle.vote.specs.Queue.{queuedAt};
 ghost use Rattle.vote.specs.Voters.{areAmong, noVoters, votersOf};
-ghost use Rattle.table.specs.Blank.{blankVote, isBlankSite};
-ghost use Rattle.table.specs.Parts.{timeRight, stampNew, requestSound, readingRight, readingSound, queueEndBlank, backedBy, openRight, holdingSound, siteSound, messageSound};
-ghost use Rattle.table.specs.Sound.{queueExact};
+ghost use Rattle.table.specs.Blank.{blankVote};
+ghost use Rattle.table.specs.Parts.{rowSets, timeRight, stampNew, usedSound, valueRight, queueHolds, backedBy, openRight, holdingSound, siteRest, messageSound};
 use crate::blank::is_blank_message;
-use crate::blank::is_blank_request;
-use crate::blank::is_blank_site;
 use crate::blank::is_blank_vote;
 use crate::data::Message;
 use crate::marks::is_in_time;
+use crate::marks::set_of;
+use crate::requests::are_both;
 use crate::requests::is_request_allowed;
 use vote::consider::is_deferred;
 use vote::consider::is_ok;
@@ -29,7 +30,6 @@ use vote::data::Request;
 use vote::data::Site;
 use vote::data::Verdict;
 use vote::data::Vote;
-use vote::voters::are_all_known;
 use vote::voters::are_known_among;
 use vote::voters::count_at;
 use vote::voters::is_known;
@@ -53,7 +53,7 @@ fn is_different(a: u64, b: u64) -> bool
     a != b
 }
 
-// Whether the request at place p is sound.
+// Whether the request at a used place p is sound.
 pub(crate) fn is_request_sound<'a>(
     n: u8,
     lasts: &'a [u32; 7],
@@ -62,11 +62,8 @@ pub(crate) fn is_request_sound<'a>(
     p: usize,
 ) -> bool
     requires { ⌜ p < 16 ⌝ }
-    ensures { λ r. ⌜ r ≡ requestSound n (now (lasts .entry)) (now (stamps .entry)) q p ⌝ }
+    ensures { λ r. ⌜ r ≡ usedSound n (now (lasts .entry)) (now (stamps .entry)) q p ⌝ }
 {
-    if q.stamp == 0 {
-        return is_blank_request(q);
-    }
     if !is_request_allowed(n, q) {
         return false;
     }
@@ -79,42 +76,68 @@ pub(crate) fn is_request_sound<'a>(
     is_stamp_new(stamps, p)
 }
 
-// Whether a reading is allowed: its stamp well formed, its value in range, and 0 at stamp 0.
-fn is_reading_allowed(n: u8, stamp: u64, value: i32) -> bool
-    ensures { λ r. ⌜ r ≡ readingRight n stamp value ⌝ }
+// Whether a stamp is well formed and in time that stands behind one that is: often it is the same.
+fn is_next_sound(n: u8, lasts: &[u32; 7], last: u64, stamp: u64) -> bool
+    requires { ⌜ (wellFormed n last && timeRight (now lasts) last) ≡ true ⌝ }
+    ensures { λ r. ⌜ r ≡ (wellFormed n stamp && timeRight (now (lasts .entry)) stamp) ⌝ }
 {
+    if stamp == last {
+        return true;
+    }
     if !stamps::is_well_formed(n, stamp) {
-        return false;
-    }
-    if !readings::is_in_range(value) {
-        return false;
-    }
-    if stamp == 0 {
-        return readings::is_zero(value);
-    }
-    true
-}
-
-// Whether a site's reading of item i is sound.
-fn is_reading_sound(n: u8, lasts: &[u32; 7], stamp: u64, value: i32) -> bool
-    ensures { λ r. ⌜ r ≡ (readingRight n stamp value && timeRight (now (lasts .entry)) stamp) ⌝ }
-{
-    if !is_reading_allowed(n, stamp, value) {
         return false;
     }
     is_in_time(lasts, stamp)
 }
 
-// Whether a site's copy is sound.
-fn is_copy_sound(n: u8, lasts: &[u32; 7], s: Site) -> bool
-    ensures { λ r. ⌜ r ≡ all 24 (readingSound n (now (lasts .entry)) s) ⌝ }
+// Whether each stamp of a copy is well formed and in time.
+fn are_copied_in_time<'a, 'b>(n: u8, lasts: &'a [u32; 7], copied: &'b [u64; 24]) -> bool
+    ensures { λ r. ⌜ r ≡ all 24 (λ i. wellFormed n (getD (now (copied .entry)) i 0) && timeRight (now (lasts .entry)) (getD (now (copied .entry)) i 0)) ⌝ }
 {
+    let mut last: u64 = 0;
     for i in 0..24 {
-        if !is_reading_sound(n, lasts, s.stamps[i], s.values[i]) {
+        if !is_next_sound(n, lasts, last, copied[i]) {
             return false;
         }
+        last = copied[i];
     }
     true
+}
+
+// Whether a value is in range, and 0 at stamp 0.
+fn is_value_right(stamp: u64, value: i32) -> bool
+    ensures { λ r. ⌜ r ≡ valueRight stamp value ⌝ }
+{
+    if stamp == 0 {
+        return readings::is_zero(value);
+    }
+    readings::is_in_range(value)
+}
+
+// Whether each value of a copy is right beside its stamp. No turn leaves the loop, so that the tests can be made side by side.
+fn are_copied_right<'a>(copied: &'a [u64; 24], values: &'a [i32; 24]) -> bool
+    ensures { λ r. ⌜ r ≡ all 24 (λ i. valueRight (getD (now (copied .entry)) i 0) (getD (now (values .entry)) i (pos 0))) ⌝ }
+{
+    let mut good = true;
+    for i in 0..24 {
+        good = are_both(good, is_value_right(copied[i], values[i]));
+    }
+    good
+}
+
+// Whether a site's copy is sound.
+fn is_copy_sound<'a, 'b>(
+    n: u8,
+    lasts: &'a [u32; 7],
+    copied: &'b [u64; 24],
+    values: &'b [i32; 24],
+) -> bool
+    ensures { λ r. ⌜ r ≡ (all 24 (λ i. wellFormed n (getD (now (copied .entry)) i 0) && timeRight (now (lasts .entry)) (getD (now (copied .entry)) i 0)) && all 24 (λ i. valueRight (getD (now (copied .entry)) i 0) (getD (now (values .entry)) i (pos 0)))) ⌝ }
+{
+    if !are_copied_in_time(n, lasts, copied) {
+        return false;
+    }
+    are_copied_right(copied, values)
 }
 
 // Whether place i of a queue is 0, if it lies behind the end.
@@ -128,11 +151,11 @@ fn is_blank_behind(waiting: u8, i: usize, place: u8) -> bool
 }
 
 // Whether the queue's places behind its end are 0.
-fn is_queue_end_blank(s: Site) -> bool
-    ensures { λ r. ⌜ r ≡ queueEndBlank s ⌝ }
+fn is_queue_end_blank(waiting: u8, queue: &[u8; 16]) -> bool
+    ensures { λ r. ⌜ r ≡ all 16 (λ i. implies (leb waiting i) (eqb (queuedAt (now (queue .entry)) i) 0)) ⌝ }
 {
     for i in 0..16 {
-        if !is_blank_behind(s.waiting, i, s.queue[i]) {
+        if !is_blank_behind(waiting, i, queue[i]) {
             return false;
         }
     }
@@ -140,9 +163,9 @@ fn is_queue_end_blank(s: Site) -> bool
 }
 
 // Whether each of the first w places of the queue names a request place; w is at most 16.
-fn are_places(queue: [u8; 16], w: usize) -> bool
+fn are_places(queue: &[u8; 16], w: usize) -> bool
     requires { ⌜ w ≤ 16 ⌝ }
-    ensures { λ r. ⌜ r ≡ all w (λ i. ltb (queuedAt queue i) 16) ⌝ }
+    ensures { λ r. ⌜ r ≡ all w (λ i. ltb (queuedAt (now (queue .entry)) i) 16) ⌝ }
 {
     for i in 0..w {
         if !is_place(queue[i]) {
@@ -159,9 +182,9 @@ fn is_place(p: u8) -> bool
 }
 
 // How often each place stands among the first w of the queue; w is at most 16.
-fn times_queued(queue: [u8; 16], w: usize) -> [u8; 16]
+fn times_queued(queue: &[u8; 16], w: usize) -> [u8; 16]
     requires { ⌜ w ≤ 16 ⌝ }
-    ensures { λ r. ⌜ r ≡ listed 16 (λ p. number w (λ i. eqb (queuedAt queue i) p)) ⌝ }
+    ensures { λ r. ⌜ r ≡ listed 16 (λ p. number w (λ i. eqb (queuedAt (now (queue .entry)) i) p)) ⌝ }
 {
     let mut times = [0u8; 16];
     for i in 0..w {
@@ -194,18 +217,16 @@ fn are_queued_right(times: [u8; 16], votes: [Vote; 16]) -> bool
 }
 
 // Whether the queue holds exactly the deferred requests, once each.
-fn is_queue_exact(s: Site) -> bool
-    ensures { λ r. ⌜ r ≡ queueExact s ⌝ }
+fn is_queue_exact(waiting: u8, queue: &[u8; 16], votes: [Vote; 16]) -> bool
+    ensures { λ r. ⌜ r ≡ queueHolds waiting (now (queue .entry)) votes ⌝ }
 {
-    let w = kit::index(s.waiting);
+    let w = kit::index(waiting);
     if 16 < w {
         return false;
     }
-    let queue = s.queue;
     if !are_places(queue, w) {
         return false;
     }
-    let votes = s.votes;
     are_queued_right(times_queued(queue, w), votes)
 }
 
@@ -378,7 +399,7 @@ fn are_places_held<'a, 'b>(
     true
 }
 
-// Whether site number `me` is sound.
+// Whether site number `me` of the table is sound.
 pub(crate) fn is_site_sound<'a>(
     n: u8,
     lasts: &'a [u32; 7],
@@ -388,40 +409,25 @@ pub(crate) fn is_site_sound<'a>(
     me: usize,
     s: Site,
 ) -> bool
-    ensures { λ r. ⌜ r ≡ siteSound n (now (lasts .entry)) (listed 16 (λ p. record { oks = votersOf (now (agreed .entry)) p; others = votersOf (now (opposed .entry)) p })) (now (stamps .entry)) me s ⌝ }
+    ensures { λ r. ⌜ r ≡ siteRest n (now (lasts .entry)) (listed 16 (λ p. record { oks = votersOf (now (agreed .entry)) p; others = votersOf (now (opposed .entry)) p })) (now (stamps .entry)) me s ⌝ }
 {
-    if !is_blank_beyond(n, me, s) {
+    if !is_copy_sound(n, lasts, &s.stamps, &s.values) {
         return false;
     }
-    if !is_copy_sound(n, lasts, s) {
-        return false;
-    }
-    if !is_queue_end_blank(s) {
-        return false;
-    }
-    if !is_queue_exact(s) {
-        return false;
-    }
-    let oks = s.oks;
-    if !are_known_among(&oks, agreed) {
-        return false;
-    }
-    let others = s.others;
-    if !are_known_among(&others, opposed) {
+    if !is_queue_end_blank(s.waiting, &s.queue) {
         return false;
     }
     let votes = s.votes;
-    are_places_held(n, me, agreed, opposed, stamps, votes, &oks, &others)
-}
-
-// Whether a site that is not of the table is blank.
-fn is_blank_beyond(n: u8, me: usize, s: Site) -> bool
-    ensures { λ r. ⌜ r ≡ implies (leb n me) (isBlankSite s) ⌝ }
-{
-    if kit::index(n) <= me {
-        return is_blank_site(s);
+    if !is_queue_exact(s.waiting, &s.queue, votes) {
+        return false;
     }
-    true
+    if !are_known_among(&s.oks, agreed) {
+        return false;
+    }
+    if !are_known_among(&s.others, opposed) {
+        return false;
+    }
+    are_places_held(n, me, agreed, opposed, stamps, votes, &s.oks, &s.others)
 }
 
 // Whether place p is one of the 16 and holds a request.
@@ -448,22 +454,29 @@ fn are_two_sites(n: u8, a: u8, b: u8) -> bool
     a != b
 }
 
-// Whether what a message carries of place p agrees with the own marks of all sites.
+// Whether what a message carries of place p agrees with the own marks of all sites; `agreeing` and `opposing` are those of each place as
+// sets.
 fn is_content_right<'a>(
     n: u8,
     p: u8,
     agreed: &'a [bool; 112],
     opposed: &'a [bool; 112],
+    agreeing: &'a [u32; 16],
+    opposing: &'a [u32; 16],
     m: Message,
 ) -> bool
+    requires { ⌜ p < 16 ⌝ }
+    requires { ⌜ now agreeing ≡ rowSets (now agreed) ⌝ }
+    requires { ⌜ now opposing ≡ rowSets (now opposed) ⌝ }
     ensures { λ r. ⌜ r ≡ (areAmong (m .oks) (votersOf (now (agreed .entry)) p) && (areAmong (m .others) (votersOf (now (opposed .entry)) p) && backedBy n (record { oks = votersOf (now (agreed .entry)) p; others = votersOf (now (opposed .entry)) p }) (m .verdict))) ⌝ }
 {
+    let at = kit::index(p);
     let sent_oks = m.oks;
-    if !are_all_known(sent_oks, agreed, p) {
+    if !sets::is_inside(set_of(sent_oks), agreeing[at]) {
         return false;
     }
     let sent_others = m.others;
-    if !are_all_known(sent_others, opposed, p) {
+    if !sets::is_inside(set_of(sent_others), opposing[at]) {
         return false;
     }
     let v = m.verdict;
@@ -475,9 +488,13 @@ pub(crate) fn is_message_sound<'a>(
     n: u8,
     agreed: &'a [bool; 112],
     opposed: &'a [bool; 112],
+    agreeing: &'a [u32; 16],
+    opposing: &'a [u32; 16],
     stamps: &'a [u64; 16],
     m: Message,
 ) -> bool
+    requires { ⌜ now agreeing ≡ rowSets (now agreed) ⌝ }
+    requires { ⌜ now opposing ≡ rowSets (now opposed) ⌝ }
     ensures { λ r. ⌜ r ≡ messageSound n (listed 16 (λ p. record { oks = votersOf (now (agreed .entry)) p; others = votersOf (now (opposed .entry)) p })) (now (stamps .entry)) m ⌝ }
 {
     if !m.used {
@@ -489,5 +506,5 @@ pub(crate) fn is_message_sound<'a>(
     if !are_two_sites(n, m.from, m.to) {
         return false;
     }
-    is_content_right(n, m.request, agreed, opposed, m)
+    is_content_right(n, m.request, agreed, opposed, agreeing, opposing, m)
 }

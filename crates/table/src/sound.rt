@@ -8,12 +8,14 @@ ghost use Rattle.table.specs.Places.{noSite, noMessage};
 ghost use Rattle.table.specs.Sound.{soundTable};
 ghost use Rattle.vote.specs.Data.{requestAt};
 ghost use Rattle.vote.specs.Voters.{votersOf};
-use crate::data::Message;
+use crate::blank::is_blank_request;
+use crate::blank::is_blank_site;
 use crate::data::Table;
 use crate::fresh::is_site_count;
 use crate::marks::ballots_of;
 use crate::marks::lasts_of;
 use crate::marks::marked_of;
+use crate::marks::sets_of;
 use crate::parts::is_message_sound;
 use crate::parts::is_request_sound;
 use crate::parts::is_site_sound;
@@ -31,58 +33,7 @@ fn stamps_of(rs: [Request; 16]) -> [u64; 16]
     stamps
 }
 
-fn are_requests_sound<'a>(
-    n: u8,
-    lasts: &'a [u32; 7],
-    stamps: &'a [u64; 16],
-    rs: [Request; 16],
-) -> bool
-    ensures { λ r. ⌜ r ≡ all 16 (λ p. requestSound n (now (lasts .entry)) (now (stamps .entry)) (requestAt rs p) p) ⌝ }
-{
-    for p in 0..16 {
-        if !is_request_sound(n, lasts, stamps, rs[p], p) {
-            return false;
-        }
-    }
-    true
-}
-
-fn are_sites_sound<'a>(
-    n: u8,
-    lasts: &'a [u32; 7],
-    agreed: &'a [bool; 112],
-    opposed: &'a [bool; 112],
-    stamps: &'a [u64; 16],
-    sites: [Site; 7],
-) -> bool
-    ensures { λ r. ⌜ r ≡ all 7 (λ k. siteSound n (now (lasts .entry)) (listed 16 (λ p. record { oks = votersOf (now (agreed .entry)) p; others = votersOf (now (opposed .entry)) p })) (now (stamps .entry)) k (getD sites k noSite)) ⌝ }
-{
-    for k in 0..7 {
-        if !is_site_sound(n, lasts, agreed, opposed, stamps, k, sites[k]) {
-            return false;
-        }
-    }
-    true
-}
-
-fn are_messages_sound<'a>(
-    n: u8,
-    agreed: &'a [bool; 112],
-    opposed: &'a [bool; 112],
-    stamps: &'a [u64; 16],
-    messages: [Message; 64],
-) -> bool
-    ensures { λ r. ⌜ r ≡ all 64 (λ j. messageSound n (listed 16 (λ p. record { oks = votersOf (now (agreed .entry)) p; others = votersOf (now (opposed .entry)) p })) (now (stamps .entry)) (getD messages j noMessage)) ⌝ }
-{
-    for j in 0..64 {
-        if !is_message_sound(n, agreed, opposed, stamps, messages[j]) {
-            return false;
-        }
-    }
-    true
-}
-
-// Whether a table is sound.
+// Whether a table is sound. Its loops stand here and not in functions of their own, so that the table is copied once.
 pub fn sound(t: Table) -> bool
     ensures { λ r. ⌜ r ≡ soundTable t ⌝ }
 {
@@ -90,19 +41,49 @@ pub fn sound(t: Table) -> bool
     if !is_site_count(n) {
         return false;
     }
-    let rs = t.requests;
     let sites = t.sites;
     let lasts = lasts_of(sites);
+    let rs = t.requests;
     let stamps = stamps_of(rs);
-    if !are_requests_sound(n, &lasts, &stamps, rs) {
-        return false;
+    for p in 0..16 {
+        if stamps[p] == 0 {
+            if !is_blank_request(t.requests[p]) {
+                return false;
+            }
+        } else {
+            if !is_request_sound(n, &lasts, &stamps, t.requests[p], p) {
+                return false;
+            }
+        }
     }
     let marked = marked_of(ballots_of(sites));
     let oks = marked.oks;
     let others = marked.others;
-    if !are_sites_sound(n, &lasts, &oks, &others, &stamps, sites) {
-        return false;
+    for k in 0..7 {
+        if kit::index(n) <= k {
+            if !is_blank_site(t.sites[k]) {
+                return false;
+            }
+        } else {
+            if !is_site_sound(n, &lasts, &oks, &others, &stamps, k, t.sites[k]) {
+                return false;
+            }
+        }
     }
-    let messages = t.messages;
-    are_messages_sound(n, &oks, &others, &stamps, messages)
+    let agreeing = sets_of(&oks);
+    let opposing = sets_of(&others);
+    for j in 0..64 {
+        if !is_message_sound(
+            n,
+            &oks,
+            &others,
+            &agreeing,
+            &opposing,
+            &stamps,
+            t.messages[j],
+        ) {
+            return false;
+        }
+    }
+    true
 }

@@ -8,10 +8,10 @@ use Rattle.table.proofs.parts.are_places.Statement.{statement}
 use Rattle.table.proofs.parts.are_places.Tie as tie
 
 abbrev Inv-loop : tie.InvT-loop
-Inv-loop w queue i₀ i = Held w (λ k. ltb (queuedAt queue k) 16) i
+Inv-loop queue w i₀ i = Held w (λ k. ltb (queuedAt queue k) 16) i
 
 abbrev μ-loop : tie.MeasureT-loop
-μ-loop w queue i₀ i = w - i
+μ-loop queue w i₀ i = w - i
 
 pub are-places-spec : {M : Type 1} → statement M
 are-places-spec =

@@ -31,6 +31,9 @@ sent n agreed opposed stamps m u e f g h k =
     rw (not-false (m .used) u)
     (and-passed e f (and-passed g h (rw (rows-in agreed opposed (m .request) (place-known (m .request) _ e f)) k)))
 
+content-requires : tie.Need-is-content-right-requires
+content-requires c κs = (place-known _ _ (c .before .before .before .is-used-place .ensures) (c .before .before .if2 .left), (search needs, search needs))
+
 returns-4 : tie.Need-returns-4
 returns-4 c =
     let a = c .before .before .before .before .before .before .before .args in
@@ -47,5 +50,5 @@ is-message-sound-spec =
     (λ c. search (choices, refusals))
     (λ c κs. search needs)
     (λ c. search (choices, refusals))
-    (λ c κs. search needs)
+    content-requires
     returns-4)

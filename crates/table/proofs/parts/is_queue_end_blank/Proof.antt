@@ -5,18 +5,16 @@ use lib.Dec.{eqb, leb}
 use Rattle.kit.specs.Range.{implies}
 use Rattle.kit.proofs.Loops.{Held, alls}
 use Rattle.vote.specs.Queue.{queuedAt}
-use Rattle.table.specs.Parts.{queueEndBlank}
 use Rattle.table.proofs.parts.is_queue_end_blank.Statement.{statement}
 use Rattle.table.proofs.parts.is_queue_end_blank.Tie as tie
 
 abbrev Inv-loop : tie.InvT-loop
-Inv-loop s i₀ i = Held 16 (λ k. implies (leb (s .waiting) k) (eqb (queuedAt (s .queue) k) 0)) i
+Inv-loop waiting queue i₀ i = Held 16 (λ k. implies (leb waiting k) (eqb (queuedAt queue k) 0)) i
 
 abbrev μ-loop : tie.MeasureT-loop
-μ-loop s i₀ i = 16 - i
+μ-loop waiting queue i₀ i = 16 - i
 
 pub is-queue-end-blank-spec : {M : Type 1} → statement M
-unfolding queueEndBlank
 is-queue-end-blank-spec =
     tie.close
     (tie.spec

@@ -8,10 +8,10 @@ use Rattle.table.proofs.parts.times_queued.Statement.{statement}
 use Rattle.table.proofs.parts.times_queued.Tie as tie
 
 abbrev Inv-loop : tie.InvT-loop
-Inv-loop w queue times₀ i₀ times i = (i ≤ w) × Tallied queue i times
+Inv-loop queue w times₀ i₀ times i = (i ≤ w) × Tallied queue i times
 
 abbrev μ-loop : tie.MeasureT-loop
-μ-loop w queue times₀ i₀ times i = w - i
+μ-loop queue w times₀ i₀ times i = w - i
 
 loop-again : tie.Need-loop-again Inv-loop μ-loop
 loop-again c =
@@ -27,7 +27,7 @@ times-queued-spec =
     (λ c. search needs)
     (λ c κs. search needs)
     (λ c. search needs)
-    (λ c. omega (arith, tallied-few (c .before .before .before .loop .inv .1) (c .if1 .taken)))
+    (λ c. omega (arith, tallied-few (c .before .before .before .before .loop .inv .1) (c .if1 .taken)))
     (λ c. search needs)
     (λ c. search needs)
     (λ c. search needs)

@@ -8,6 +8,7 @@ use Rattle.sets.specs.Sets.{member}
 use Rattle.stamps.specs.Stamps.{wellFormed}
 use Rattle.table.specs.Sound.{baseStampsAllowed}
 use Rattle.table.proofs.Chains.{implies-means}
+use Rattle.table.proofs.Runs.{all-based}
 use Rattle.table.proofs.requests.are_based_right.Statement.{statement}
 use Rattle.table.proofs.requests.are_based_right.Tie as tie
 
@@ -24,6 +25,8 @@ are-based-right-spec =
     (tie.spec
     Inv-loop
     μ-loop
+    (λ c κs. search needs)
+    (λ c. search all-based)
     (λ c. search alls)
     (λ c κs. search needs)
     (λ c. search alls)

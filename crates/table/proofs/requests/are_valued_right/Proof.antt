@@ -9,6 +9,7 @@ use Rattle.readings.specs.Readings.{inRange}
 use Rattle.sets.specs.Sets.{member}
 use Rattle.table.specs.Sound.{valuesAllowed}
 use Rattle.table.proofs.Chains.{implies-range, sized}
+use Rattle.table.proofs.Runs.{all-valued}
 use Rattle.table.proofs.requests.are_valued_right.Statement.{statement}
 use Rattle.table.proofs.requests.are_valued_right.Tie as tie
 
@@ -25,6 +26,8 @@ are-valued-right-spec =
     (tie.spec
     Inv-loop
     μ-loop
+    (λ c κs. search needs)
+    (λ c. search all-valued)
     (λ c. search alls)
     (λ c κs. search needs)
     (λ c. search alls)

@@ -1,70 +1,92 @@
--- `table::sound::sound` meets its contract: it computes `partsSound`, a law for each of its returns, and that is `soundTable`.
-use mathlib.Core.Path.{_≡_, _∙_}
-use mathlib.Core.Bool.{Bool, true, false, not, _&&_}
-use mathlib.Core.List.{List, []}
-use Prim.Native.Nat.{ℕ, _/_, _%_}
+-- `table::sound::sound` meets its contract: three loops that return at the first that fails.
+use mathlib.Core.Logic.{⊎-elim}
+use Prim.Native.Nat.{_-_}
+use native.Mathlib.Omega.{arith}
 use borrow.Author.Needs.{needs}
-use borrow.Author.Tests.{not-true, not-false}
-use lib.Dec.{leb}
-use lib.ListN.{getD}
-use Rattle.kit.specs.Lists.{listed}
-use Rattle.kit.specs.Range.{all}
-use Rattle.vote.specs.Data.{isOk, isOther, requestAt, voteAt}
-use Rattle.table.specs.Parts.{lastsOf, stampsOf, ballotsOf, marksOf, requestSound, siteSound, messageSound, partsSound}
-use Rattle.table.specs.Places.{noSite, noMessage}
-use Rattle.table.specs.Sound.{soundTable}
-use Rattle.table.specs.declared.data.Table.{Table}
-use Rattle.table.specs.declared.marks.Ballot.{Ballot}
-use Rattle.table.proofs.Marked.{rowsOf, rows-said}
-use Rattle.table.proofs.Same.{parts-sound}
+use Rattle.kit.proofs.Loops.{Held, held-none, held-more, alls}
+use Rattle.table.proofs.BlankSites.{unused-site, used-site}
+use Rattle.table.proofs.Whole.{requestRight, siteRight, messageRight, free-place, used-place, no-count, request-wrong, site-wrong, message-wrong, all-right}
 use Rattle.table.proofs.sound.sound.Statement.{statement}
 use Rattle.table.proofs.sound.sound.Tie as tie
 
-module _ (t : Table) {a : Bool} (count : a ≡ (leb 1 (t .count) && leb (t .count) 7)) where
-  part-1 : not a ≡ true → false ≡ partsSound t
-  unfolding partsSound
-  part-1 h = rw (← count, not-true a h)
+abbrev Inv-loop : tie.InvT-loop
+Inv-loop t n sites lasts stamps p₀ p = Held 16 (requestRight t lasts stamps) p
 
-  module _
-      {lasts stamps : List ℕ} {b : Bool} (counted : not a ≡ false) (times : lasts ≡ lastsOf (t .sites)) (named : stamps ≡ stampsOf (t .requests))
-      (requests : b ≡ all 16 (λ p. requestSound (t .count) lasts stamps (requestAt (t .requests) p) p)) where
-    part-2 : not b ≡ true → false ≡ partsSound t
-    unfolding partsSound
-    part-2 h = rw (← count, not-false a counted, ← times, ← named, ← requests, not-true b h)
+abbrev μ-loop : tie.MeasureT-loop
+μ-loop t n sites lasts stamps p₀ p = 16 - p
 
-    module _
-        {ballots : List Ballot} {oks others : List Bool} {d : Bool} (asked : not b ≡ false) (said : ballots ≡ ballotsOf (t .sites))
-        (ok : oks ≡ listed 112 (λ i. isOk (voteAt (getD ballots (i % 7) (record { votes = [] }) .votes) (i / 7) .mark)))
-        (other : others ≡ listed 112 (λ i. isOther (voteAt (getD ballots (i % 7) (record { votes = [] }) .votes) (i / 7) .mark)))
-        (sites : d ≡ all 7 (λ k. siteSound (t .count) lasts (rowsOf oks others) stamps k (getD (t .sites) k noSite))) where
-      own : rowsOf oks others ≡ marksOf ballots
-      own = rows-said ballots ok other
+abbrev Inv-loop2 : tie.InvT-loop2
+Inv-loop2 t n lasts stamps oks others k₀ k = Held 7 (siteRight t lasts stamps oks others) k
 
-      part-3 : not d ≡ true → false ≡ partsSound t
-      unfolding partsSound
-      part-3 h = rw (← count, not-false a counted, ← times, ← named, ← requests, not-false b asked, ← said, ← own, ← sites, not-true d h)
+abbrev μ-loop2 : tie.MeasureT-loop2
+μ-loop2 t n lasts stamps oks others k₀ k = 7 - k
 
-      part-4 : {g : Bool} → not d ≡ false → g ≡ all 64 (λ j. messageSound (t .count) (rowsOf oks others) stamps (getD (t .messages) j noMessage)) → g ≡ partsSound t
-      unfolding partsSound
-      part-4 h e = rw (← count, not-false a counted, ← times, ← named, ← requests, not-false b asked, ← said, ← own, ← sites, not-false d h) e
+abbrev Inv-loop3 : tie.InvT-loop3
+Inv-loop3 t n stamps oks others agreeing opposing j₀ j = Held 64 (messageRight t stamps oks others) j
 
--- the parts together are the whole
-whole : {r : Bool} (t : Table) → r ≡ partsSound t → r ≡ soundTable t
-whole t e = e ∙ parts-sound t
+abbrev μ-loop3 : tie.MeasureT-loop3
+μ-loop3 t n stamps oks others agreeing opposing j₀ j = 64 - j
+
+loop-again : tie.Need-loop-again Inv-loop μ-loop Inv-loop2 μ-loop2 Inv-loop3 μ-loop3
+loop-again c = ⊎-elim (λ w. search (held-more, free-place, arith)) (λ w. search (held-more, used-place, arith)) (c .if2 .came)
+
+loop2-again : tie.Need-loop2-again Inv-loop μ-loop Inv-loop2 μ-loop2 Inv-loop3 μ-loop3
+loop2-again c = ⊎-elim (λ w. search (held-more, unused-site, arith)) (λ w. search (held-more, used-site, arith)) (c .if5 .came)
+
+loop3-again : tie.Need-loop3-again Inv-loop μ-loop Inv-loop2 μ-loop2 Inv-loop3 μ-loop3
+loop3-again c = held-more (c .before .before .before .before .before .before .before .before .before .loop3 .inv) (omega arith) (c .before .is-message-sound .ensures) (c .if8 .left)
 
 pub sound-spec : {M : Type 1} → statement M
 sound-spec =
     tie.close
     (tie.spec
+    Inv-loop
+    μ-loop
+    Inv-loop2
+    μ-loop2
+    Inv-loop3
+    μ-loop3
     (λ c κs. search needs)
-    (λ c. search (whole, part-1))
+    (λ c. search no-count)
     (λ c κs. search needs)
     (λ c κs. search needs)
+    (λ c. search alls)
+    (λ c. search (alls, needs))
+    (λ c. search (alls, needs))
+    (λ c. search (alls, needs))
+    (λ c. search (alls, needs))
     (λ c κs. search needs)
-    (λ c. search (whole, part-2))
+    (λ c. search (request-wrong, free-place))
+    (λ c. search (alls, needs))
+    (λ c. search (alls, needs))
+    (λ c κs. search needs)
+    (λ c. search (request-wrong, used-place))
+    (λ c. search (alls, needs))
+    (λ c. search (alls, needs))
+    loop-again
     (λ c κs. search needs)
     (λ c κs. search needs)
+    (λ c. search alls)
     (λ c κs. search needs)
-    (λ c. search (whole, part-3))
+    (λ c. search (alls, needs))
+    (λ c. search (alls, needs))
     (λ c κs. search needs)
-    (λ c. search (whole, part-4)))
+    (λ c. search (site-wrong, unused-site))
+    (λ c. search (alls, needs))
+    (λ c. search (alls, needs))
+    (λ c κs. search needs)
+    (λ c. search (site-wrong, used-site))
+    (λ c. search (alls, needs))
+    (λ c. search (alls, needs))
+    loop2-again
+    (λ c κs. search needs)
+    (λ c κs. search needs)
+    (λ c. search alls)
+    (λ c. search (alls, needs))
+    (λ c. search (alls, needs))
+    (λ c κs. search needs)
+    (λ c. search message-wrong)
+    (λ c. search (alls, needs))
+    (λ c. search (alls, needs))
+    loop3-again
+    (λ c. search all-right))
