@@ -80,8 +80,6 @@ use Rattle.vote.proofs.voters.no_voters.Kinds as no-voters-kinds
 use Rattle.vote.proofs.voters.no_voters.Reads as no-voters-reads
 use Rattle.vote.proofs.voters.has_voter.Kinds as has-voter-kinds
 use Rattle.vote.proofs.voters.has_voter.Reads as has-voter-reads
-use Rattle.vote.proofs.voters.put_voter.Kinds as put-voter-kinds
-use Rattle.vote.proofs.voters.put_voter.Reads as put-voter-reads
 use Rattle.vote.proofs.voters.is_no_voter.Kinds as is-no-voter-kinds
 use Rattle.vote.proofs.voters.is_no_voter.Reads as is-no-voter-reads
 use Rattle.vote.proofs.voters.is_none_known.Kinds as is-none-known-kinds
@@ -94,12 +92,6 @@ use Rattle.vote.proofs.voters.count_known.Kinds as count-known-kinds
 use Rattle.vote.proofs.voters.count_known.Reads as count-known-reads
 use Rattle.vote.proofs.voters.is_known.Kinds as is-known-kinds
 use Rattle.vote.proofs.voters.is_known.Reads as is-known-reads
-use Rattle.vote.proofs.voters.are_all_known.Kinds as are-all-known-kinds
-use Rattle.vote.proofs.voters.are_all_known.Reads as are-all-known-reads
-use Rattle.vote.proofs.voters.place_at.Kinds as place-at-kinds
-use Rattle.vote.proofs.voters.place_at.Reads as place-at-reads
-use Rattle.vote.proofs.voters.voter_at.Kinds as voter-at-kinds
-use Rattle.vote.proofs.voters.voter_at.Reads as voter-at-reads
 use Rattle.vote.proofs.voters.are_known_among.Kinds as are-known-among-kinds
 use Rattle.vote.proofs.voters.are_known_among.Reads as are-known-among-reads
 use Rattle.vote.proofs.voters.count_at.Kinds as count-at-kinds
@@ -273,10 +265,6 @@ one-no-voters κs a r r′ w w′ p q = (as-one p q, refl)
 pub one-has-voter : OneOutcome has-voter-kinds.ps has-voter-kinds.r has-voter-reads.Learnt
 one-has-voter κs a r r′ w w′ p q = (as-one p q, refl)
 
--- vote::voters::put_voter
-pub one-put-voter : OneOutcome put-voter-kinds.ps put-voter-kinds.r put-voter-reads.Learnt
-one-put-voter κs a r r′ w w′ p q = (as-one p q, refl)
-
 -- vote::voters::is_no_voter
 pub one-is-no-voter : OneOutcome is-no-voter-kinds.ps is-no-voter-kinds.r is-no-voter-reads.Learnt
 one-is-no-voter κs a r r′ w w′ p q = (as-one p q, refl)
@@ -300,18 +288,6 @@ one-count-known κs a r r′ w w′ p q = (as-one p q, refl)
 -- vote::voters::is_known
 pub one-is-known : OneOutcome is-known-kinds.ps is-known-kinds.r is-known-reads.Learnt
 one-is-known κs a r r′ w w′ p q = (as-one p q, refl)
-
--- vote::voters::are_all_known
-pub one-are-all-known : OneOutcome are-all-known-kinds.ps are-all-known-kinds.r are-all-known-reads.Learnt
-one-are-all-known κs a r r′ w w′ p q = (as-one p q, refl)
-
--- vote::voters::place_at
-pub one-place-at : OneOutcome place-at-kinds.ps place-at-kinds.r place-at-reads.Learnt
-one-place-at κs a r r′ w w′ p q = (as-one p q, refl)
-
--- vote::voters::voter_at
-pub one-voter-at : OneOutcome voter-at-kinds.ps voter-at-kinds.r voter-at-reads.Learnt
-one-voter-at κs a r r′ w w′ p q = (as-one p q, refl)
 
 -- vote::voters::are_known_among
 pub one-are-known-among : OneOutcome are-known-among-kinds.ps are-known-among-kinds.r are-known-among-reads.Learnt

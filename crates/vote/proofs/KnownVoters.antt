@@ -14,7 +14,7 @@ use Rattle.kit.specs.Range.{any, all, one, number, implies}
 use Rattle.kit.proofs.Bools.{clash, and-left, and-right, implied, implying, same-test, by-eq, by-lt}
 use Rattle.kit.proofs.Listings.{Filled, filled-put, length-listed, listed-at, listed-same}
 use Rattle.kit.proofs.Ranges.{any-suc, any-at, none-of, all-at, all-of, number-le, number-same, number-grows, number-none}
-use Rattle.vote.specs.Voters.{knows, votersOf, onlyVoter, joinUpTo, joinVoters, hasVoter, votersFor, votersKnown, noKnown, putVoter, areAmong, clearUpTo, clearVoters}
+use Rattle.vote.specs.Voters.{knows, votersOf, onlyVoter, joinUpTo, joinVoters, hasVoter, votersFor, votersKnown, noKnown, areAmong, clearUpTo, clearVoters}
 use Rattle.vote.proofs.Rows.{row-in, row-known, row-number, length-clearUpTo}
 
 -- ---- as the code asks and makes them; `at` is the place as an index
@@ -261,14 +261,6 @@ knows-joined-row known p more q u len hp hq hu = rw (knows-joined known p more q
 
 pub only-row : (me u : ℕ) → u < 7 → hasVoter (onlyVoter me) u ≡ eqb me u
 only-row me u h = rw (← row-in (onlyVoter me) u (omega arith)) (knows-only me u h)
-
--- a row with one voter changed
-pub put-row : (row : List Bool) (u : ℕ) (b : Bool) (v : ℕ) → length row ≡ 7 → u < 7 → v < 7 → hasVoter (putVoter row u b) v ≡ cond (eqb u v) b (hasVoter row v)
-unfolding putVoter
-put-row row u b v l hu hv =
-    rw (← row-in (set row u b) v (omega arith), ← row-in row v (omega arith))
-    (by-eq u v (λ e. rw (eq-eqb u v e, ← e) (getD-set-same row u b false (omega arith)))
-    (λ ne. rw (ne-eqb u v ne) (getD-set-other row u v b false (λ e. ne (sym e)))))
 
 -- one row among another, voter by voter
 pub among-has : (a b : List Bool) (u : ℕ) → areAmong a b ≡ true → u < 7 → hasVoter a u ≡ true → hasVoter b u ≡ true

@@ -40,10 +40,6 @@ hasVoter row u = ltb u 7 && getD row u false
 unfoldable pub votersFor : (ℕ → Bool) → List Bool
 votersFor f = listed 7 f
 
--- the row with voter u in it, or not
-unfoldable pub putVoter : List Bool → ℕ → Bool → List Bool
-putVoter row u b = set row u b
-
 -- no voter is in the row
 unfoldable pub noVoters : List Bool → Bool
 noVoters row = not (any 7 (hasVoter row))

@@ -1,9 +1,8 @@
 // The voters that a site knows, of each request place: the only functions that see how they are kept.
 ghost use mathlib.Core.Path.{_≡_};
 ghost use mathlib.Core.Bool.{not, _&&_, _||_};
-ghost use Prim.Native.Nat.{_/_, _%_};
-ghost use Rattle.kit.specs.Range.{all, implies};
-ghost use Rattle.vote.specs.Voters.{knows, votersOf, onlyVoter, joinVoters, clearVoters, noKnown, noRow, hasVoter, putVoter, noVoters, noneKnown, areAmong, votersListed, votersIn, votersKnown};
+ghost use Rattle.kit.specs.Range.{all};
+ghost use Rattle.vote.specs.Voters.{knows, votersOf, onlyVoter, joinVoters, clearVoters, noKnown, noRow, hasVoter, noVoters, noneKnown, areAmong, votersListed, votersIn, votersKnown};
 
 // The known voters of place p, site by site.
 pub fn voters_of(known: [bool; 112], p: u8) -> [bool; 7]
@@ -93,16 +92,6 @@ pub fn has_voter(row: [bool; 7], u: usize) -> bool
     row[u]
 }
 
-// The row with voter u in it, or not.
-pub fn put_voter(mut row: [bool; 7], u: usize, test: bool) -> [bool; 7]
-    ensures { λ r. ⌜ r ≡ putVoter row u test ⌝ }
-{
-    if u < 7 {
-        row[u] = test;
-    }
-    row
-}
-
 // Whether no voter is in the row.
 pub fn is_no_voter(row: [bool; 7]) -> bool
     ensures { λ r. ⌜ r ≡ noVoters row ⌝ }
@@ -120,15 +109,6 @@ pub fn is_none_known(known: [bool; 112], p: u8) -> bool
     ensures { λ r. ⌜ r ≡ noneKnown known p ⌝ }
 {
     is_no_voter(voters_of(known, p))
-}
-
-fn is_implied(a: bool, b: bool) -> bool
-    ensures { λ r. ⌜ r ≡ implies a b ⌝ }
-{
-    if a {
-        return b;
-    }
-    true
 }
 
 // The voters of a row as a list of site numbers, and how many they are.
@@ -181,31 +161,6 @@ pub fn is_known(known: &[bool; 112], p: u8, u: usize) -> bool
         return false;
     }
     known[7 * at + u]
-}
-
-// Whether each voter of the row is known of place p.
-pub fn are_all_known(row: [bool; 7], known: &[bool; 112], p: u8) -> bool
-    ensures { λ r. ⌜ r ≡ areAmong row (votersOf (now (known .entry)) p) ⌝ }
-{
-    for u in 0..7 {
-        if !is_implied(has_voter(row, u), is_known(known, p, u)) {
-            return false;
-        }
-    }
-    true
-}
-
-// The place and the voter that stand at i among the known ones.
-pub fn place_at(i: usize) -> usize
-    ensures { λ r. ⌜ r ≡ i / 7 ⌝ }
-{
-    i / 7
-}
-
-pub fn voter_at(i: usize) -> usize
-    ensures { λ r. ⌜ r ≡ i % 7 ⌝ }
-{
-    i % 7
 }
 
 // Whether a is without b.
