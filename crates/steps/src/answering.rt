@@ -104,9 +104,9 @@ fn stop(last: Answer, taken: usize, written: usize, next: u64, table: Table) -> 
     }
 }
 
-// The record r, which the input starts with, and then record after record of the input, while one is whole and there is room for its line.
-// A step takes its pieces out of the table, plans, and puts them back; only a verdict at a site whose queue is not empty after it looks at
-// all requests. The heads of the requests and the used message places are kept beside the table.
+// Answers the first record, whose bytes the input starts with, and then record after record of the input, while one is whole and there is
+// room for its line. For each the pieces that its step is about are taken out of the table, planned on and put back; only a verdict at a site
+// whose queue is not empty after it looks at all requests. The heads of the requests and the used message places are kept beside the table.
 pub(crate) fn answer_from(
     mut t: Table,
     first: Record,
