@@ -16,7 +16,7 @@ use Rattle.readings.specs.Readings.{inRange}
 use Rattle.record.specs.declared.Step.{Step}
 use Rattle.vote.specs.Consider.{newerCopy, olderCopy, inWay, inWayAbove, blockedAbove, blocked, considered}
 use Rattle.vote.specs.Data.{isPending, blankRequest, requestIn, headsOf}
-use Rattle.vote.specs.Queue.{joinsQueue, leavesQueue, placeInQueue}
+use Rattle.vote.specs.Queue.{queueJoined, countJoined, joinsQueue, leavesQueue, placeInQueue}
 use Rattle.vote.specs.Requests.{covers, conflicts}
 use Rattle.vote.specs.Verdicts.{verdictDue, writesItem, writtenUpTo, writtenSite, released, noted, decided, ruled}
 use Rattle.vote.specs.Voters.{knows, votersOf, onlyVoter, joinUpTo, joinVoters, hasVoter, voterList, votersIn, votersKnown, clearUpTo, clearVoters, noRow, noKnown}
@@ -79,7 +79,7 @@ _also_ : {A B : Type 0} → A → B → A × B
 e also h = (e, h)
 
 pub cases-hold : EveryRow benchCases
-unfolding sureFrom sureAll listed changed without any all first largest passing member meets inside size ofItems issued issuedForm wellFormed largestTime nextTime higher majority blocking inRange newerCopy olderCopy inWay inWayAbove blockedAbove blocked considered isPending blankRequest requestIn headsOf joinsQueue leavesQueue placeInQueue covers conflicts verdictDue writesItem writtenUpTo writtenSite released noted decided ruled knows votersOf onlyVoter joinUpTo joinVoters hasVoter voterList votersIn votersKnown clearUpTo clearVoters noRow noKnown marked countsItself voted deferred keptOutcome votedFromQueue settled takenUp heard received scan walkUpTo walked accepts rejects blankSite blankMessage blankTable freshFor setsAllowed baseStampsAllowed valuesAllowed requestAllowed freePlace freeMessage placeOf cannotTell noMessageAt beginNumber tellNumber deliverNumber stored entered begun told delivered advanced
+unfolding sureFrom sureAll listed changed without any all first largest passing member meets inside size ofItems issued issuedForm wellFormed largestTime nextTime higher majority blocking inRange newerCopy olderCopy inWay inWayAbove blockedAbove blocked considered isPending blankRequest requestIn headsOf queueJoined countJoined joinsQueue leavesQueue placeInQueue covers conflicts verdictDue writesItem writtenUpTo writtenSite released noted decided ruled knows votersOf onlyVoter joinUpTo joinVoters hasVoter voterList votersIn votersKnown clearUpTo clearVoters noRow noKnown marked countsItself voted deferred keptOutcome votedFromQueue settled takenUp heard received scan walkUpTo walked accepts rejects blankSite blankMessage blankTable freshFor setsAllowed baseStampsAllowed valuesAllowed requestAllowed freePlace freeMessage placeOf cannotTell noMessageAt beginNumber tellNumber deliverNumber stored entered begun told delivered advanced
 cases-hold =
     refl
     also refl

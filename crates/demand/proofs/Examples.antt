@@ -20,7 +20,7 @@ use Rattle.majority.specs.Majority.{majority, blocking}
 use Rattle.readings.specs.Readings.{inRange}
 use Rattle.vote.specs.Consider.{newerCopy, olderCopy, inWay, inWayAbove, blockedAbove, blocked, considered}
 use Rattle.vote.specs.Data.{isPending, blankRequest, requestIn, headsOf}
-use Rattle.vote.specs.Queue.{joinsQueue, leavesQueue, placeInQueue}
+use Rattle.vote.specs.Queue.{queueJoined, countJoined, joinsQueue, leavesQueue, placeInQueue}
 use Rattle.vote.specs.Requests.{covers, conflicts}
 use Rattle.vote.specs.Verdicts.{verdictDue, writesItem, writtenUpTo, writtenSite, released, noted, decided, ruled}
 use Rattle.vote.specs.Voters.{knows, votersOf, onlyVoter, joinUpTo, joinVoters, hasVoter, voterList, votersIn, votersKnown, clearUpTo, clearVoters, noRow, noKnown}
@@ -80,7 +80,7 @@ three : (steps : List Step) → played 3 steps ≡ sureAll (evening 3) steps
 three = sure 3 (omega arith) (omega arith)
 
 pub shown : Shown
-unfolding sureAll listed changed without any all first largest passing member meets inside size ofItems issued issuedForm wellFormed largestTime nextTime higher majority blocking inRange newerCopy olderCopy inWay inWayAbove blockedAbove blocked considered isPending blankRequest requestIn headsOf joinsQueue leavesQueue placeInQueue covers conflicts verdictDue writesItem writtenUpTo writtenSite released noted decided ruled knows votersOf onlyVoter joinUpTo joinVoters hasVoter voterList votersIn votersKnown clearUpTo clearVoters noRow noKnown marked countsItself voted deferred keptOutcome votedFromQueue settled takenUp heard received scan walkUpTo walked accepts rejects blankSite blankMessage blankTable freshFor setsAllowed baseStampsAllowed valuesAllowed requestAllowed freePlace freeMessage placeOf cannotTell noMessageAt cannotRetire beginNumber tellNumber deliverNumber retireNumber stored entered begun told delivered forgotten retired advanced allSaid inBegin inDeliver
+unfolding sureAll listed changed without any all first largest passing member meets inside size ofItems issued issuedForm wellFormed largestTime nextTime higher majority blocking inRange newerCopy olderCopy inWay inWayAbove blockedAbove blocked considered isPending blankRequest requestIn headsOf queueJoined countJoined joinsQueue leavesQueue placeInQueue covers conflicts verdictDue writesItem writtenUpTo writtenSite released noted decided ruled knows votersOf onlyVoter joinUpTo joinVoters hasVoter voterList votersIn votersKnown clearUpTo clearVoters noRow noKnown marked countsItself voted deferred keptOutcome votedFromQueue settled takenUp heard received scan walkUpTo walked accepts rejects blankSite blankMessage blankTable freshFor setsAllowed baseStampsAllowed valuesAllowed requestAllowed freePlace freeMessage placeOf cannotTell noMessageAt cannotRetire beginNumber tellNumber deliverNumber retireNumber stored entered begun told delivered forgotten retired advanced allSaid inBegin inDeliver
 shown = record {
   alone-says = ap (λ (s : Standing). s .history) (one alone);
   alone-holds = ap (λ (s : Standing). placeAt (s .table) 0) (one alone);

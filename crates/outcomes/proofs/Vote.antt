@@ -1,7 +1,7 @@
 -- Written by scripts/promises: for each public call of `vote`, no two outcomes satisfy its promise.
 use mathlib.Core.Path.{refl}
 use Rattle.outcomes.specs.Outcomes.{OneOutcome}
-use Rattle.outcomes.proofs.Same.{as-one}
+use Rattle.outcomes.proofs.Same.{as-one, part-by-part}
 use Rattle.vote.proofs.consider.is_ok.Kinds as is-ok-kinds
 use Rattle.vote.proofs.consider.is_ok.Reads as is-ok-reads
 use Rattle.vote.proofs.consider.is_deferred.Kinds as is-deferred-kinds
@@ -18,10 +18,6 @@ use Rattle.vote.proofs.consider.is_newer.Kinds as is-newer-kinds
 use Rattle.vote.proofs.consider.is_newer.Reads as is-newer-reads
 use Rattle.vote.proofs.consider.is_older.Kinds as is-older-kinds
 use Rattle.vote.proofs.consider.is_older.Reads as is-older-reads
-use Rattle.vote.proofs.consider.is_in_way.Kinds as is-in-way-kinds
-use Rattle.vote.proofs.consider.is_in_way.Reads as is-in-way-reads
-use Rattle.vote.proofs.consider.is_in_way_above.Kinds as is-in-way-above-kinds
-use Rattle.vote.proofs.consider.is_in_way_above.Reads as is-in-way-above-reads
 use Rattle.vote.proofs.consider.is_blocked.Kinds as is-blocked-kinds
 use Rattle.vote.proofs.consider.is_blocked.Reads as is-blocked-reads
 use Rattle.vote.proofs.consider.is_blocked_above.Kinds as is-blocked-above-kinds
@@ -141,14 +137,6 @@ one-is-newer κs a r r′ w w′ p q = (as-one p q, refl)
 pub one-is-older : OneOutcome is-older-kinds.ps is-older-kinds.r is-older-reads.Learnt
 one-is-older κs a r r′ w w′ p q = (as-one p q, refl)
 
--- vote::consider::is_in_way
-pub one-is-in-way : OneOutcome is-in-way-kinds.ps is-in-way-kinds.r is-in-way-reads.Learnt
-one-is-in-way κs a r r′ w w′ p q = (as-one p q, refl)
-
--- vote::consider::is_in_way_above
-pub one-is-in-way-above : OneOutcome is-in-way-above-kinds.ps is-in-way-above-kinds.r is-in-way-above-reads.Learnt
-one-is-in-way-above κs a r r′ w w′ p q = (as-one p q, refl)
-
 -- vote::consider::is_blocked
 pub one-is-blocked : OneOutcome is-blocked-kinds.ps is-blocked-kinds.r is-blocked-reads.Learnt
 one-is-blocked κs a r r′ w w′ p q = (as-one p q, refl)
@@ -175,7 +163,7 @@ one-queued-at κs a r r′ w w′ p q = (as-one p q, refl)
 
 -- vote::queue::join_queue
 pub one-join-queue : OneOutcome join-queue-kinds.ps join-queue-kinds.r join-queue-reads.Learnt
-one-join-queue κs a r r′ w w′ p q = (as-one p q, refl)
+one-join-queue κs a r r′ w w′ p q = (as-one (p .0) (q .0), part-by-part (as-one (p .1) (q .1)) refl)
 
 -- vote::queue::move_up
 pub one-move-up : OneOutcome move-up-kinds.ps move-up-kinds.r move-up-reads.Learnt
@@ -247,11 +235,11 @@ one-only-voter κs a r r′ w w′ p q = (as-one p q, refl)
 
 -- vote::voters::join_voters
 pub one-join-voters : OneOutcome join-voters-kinds.ps join-voters-kinds.r join-voters-reads.Learnt
-one-join-voters κs a r r′ w w′ p q = (as-one p q, refl)
+one-join-voters κs a r r′ w w′ p q = (refl, part-by-part (as-one p q) refl)
 
 -- vote::voters::clear_voters
 pub one-clear-voters : OneOutcome clear-voters-kinds.ps clear-voters-kinds.r clear-voters-reads.Learnt
-one-clear-voters κs a r r′ w w′ p q = (as-one p q, refl)
+one-clear-voters κs a r r′ w w′ p q = (refl, part-by-part (as-one p q) refl)
 
 -- vote::voters::no_known
 pub one-no-known : OneOutcome no-known-kinds.ps no-known-kinds.r no-known-reads.Learnt

@@ -6,8 +6,6 @@ use Rattle.walk.proofs.walking.one_if_accepted.Kinds as one-if-accepted-kinds
 use Rattle.walk.proofs.walking.one_if_accepted.Reads as one-if-accepted-reads
 use Rattle.walk.proofs.walking.one_if_rejected.Kinds as one-if-rejected-kinds
 use Rattle.walk.proofs.walking.one_if_rejected.Reads as one-if-rejected-reads
-use Rattle.walk.proofs.walking.walk.Kinds as walk-kinds
-use Rattle.walk.proofs.walking.walk.Reads as walk-reads
 use Rattle.walk.proofs.walking.resolve.Kinds as resolve-kinds
 use Rattle.walk.proofs.walking.resolve.Reads as resolve-reads
 
@@ -18,10 +16,6 @@ one-one-if-accepted κs a r r′ w w′ p q = (as-one p q, refl)
 -- walk::walking::one_if_rejected
 pub one-one-if-rejected : OneOutcome one-if-rejected-kinds.ps one-if-rejected-kinds.r one-if-rejected-reads.Learnt
 one-one-if-rejected κs a r r′ w w′ p q = (as-one p q, refl)
-
--- walk::walking::walk
-pub one-walk : OneOutcome walk-kinds.ps walk-kinds.r walk-reads.Learnt
-one-walk κs a r r′ w w′ p q = (as-one p q, refl)
 
 -- walk::walking::resolve
 pub one-resolve : OneOutcome resolve-kinds.ps resolve-kinds.r resolve-reads.Learnt

@@ -27,7 +27,7 @@ use Rattle.plans.specs.Pieces.{within, takenUpAlone, settledAlone, unbeg
 use Rattle.plans.specs.Changes.{stored}
 use Rattle.plans.specs.declared.begin.Entry.{Entry}
 use Rattle.plans.specs.declared.hearing.Heard.{Heard}
-use Rattle.plans.specs.declared.hearing.Ruling.{Ruling}
+use Rattle.plans.specs.declared.hearing.Hearing.{Hearing}
 
 -- ---- what is stored
 
@@ -58,9 +58,9 @@ stored-is a stamp e f = rw (e, f)
 -- ---- what is entered
 
 pub enter-is
-    : (n me : ℕ) (heads : List Head) (s : Site) (p : ℕ) (q : Request) (last : ℕ) {x : Head} {i k w : ℕ} {h : Heard} {r : Ruling} → q .stamp < 2 ^ 63
-    → x ≡ headOf q → i ≡ p → k ≡ within i 15 → h ≡ takenUpAlone n me (set heads k x) (withLast last s) p q → r ≡ settledAlone h p q → w ≡ p
-    → _≡_ {A = Entry} (record { answer = results (toZ w64 (q .stamp)) w (r .accepted) (r .rejected); request = q; site = r .site; due = r .due })
+    : (n me : ℕ) (heads : List Head) (s : Site) (p : ℕ) (q : Request) (last : ℕ) {x : Head} {i k w : ℕ} {h : Heard} {r : Hearing} → q .stamp < 2 ^ 63
+    → x ≡ headOf q → i ≡ p → k ≡ within i 15 → h ≡ takenUpAlone n me (set heads k x) (withLast last s) p q → r ≡ settledAlone (record { site = h .site; due = h .due }) p q → w ≡ p
+    → _≡_ {A = Entry} (record { answer = results (toZ w64 (q .stamp)) w (r .answer .accepted) (r .answer .rejected); request = q; site = r .site; due = r .due })
     (enteredAlone n me heads s p q last)
 unfolding enteredAlone
 enter-is n me heads s p q last l hx hi hk hh hr hw = rw (hr, hh, hk, hi, hx, hw, toZ-pos w64 l)

@@ -1,6 +1,7 @@
 -- What a step puts in the place of a piece: the request that begin stores, the message that tell sends, the site after retire.
 use Prim.Native.Nat.{ℕ}
-use mathlib.Core.Bool.{true, cond}
+use mathlib.Core.Bool.{Bool, true, cond}
+use mathlib.Core.List.{List}
 use lib.IntN.{pos}
 use lib.ListN.{getD, set}
 use Rattle.kit.specs.Lists.{listed}
@@ -11,6 +12,7 @@ use Rattle.vote.specs.Data.{isOpen, noVote, voteAt, withVotes, withKnown}
 use Rattle.vote.specs.Voters.{votersOf, clearVoters, noRow}
 use Rattle.vote.specs.declared.data.Request.{Request}
 use Rattle.vote.specs.declared.data.Site.{Site}
+use Rattle.vote.specs.declared.data.Verdict.{Verdict}
 
 -- "Numbers given for other items are not looked at and are stored as 0."
 unfoldable pub stored : Step → ℕ → Request
@@ -23,16 +25,19 @@ stored a stamp = record {
 }
 
 -- "the teller's known voters while open, else its verdict"
-abbrev pub messageFrom : Site → ℕ → ℕ → ℕ → Message
-messageFrom s p from to = record {
+abbrev pub messageOf : Verdict → List Bool → List Bool → ℕ → ℕ → ℕ → Message
+messageOf d oks others p from to = record {
   used = true;
   request = p;
   from = from;
   to = to;
-  verdict = voteAt (s .votes) p .verdict;
-  oks = cond (isOpen (voteAt (s .votes) p .verdict)) (votersOf (s .oks) p) noRow;
-  others = cond (isOpen (voteAt (s .votes) p .verdict)) (votersOf (s .others) p) noRow;
+  verdict = d;
+  oks = cond (isOpen d) (votersOf oks p) noRow;
+  others = cond (isOpen d) (votersOf others p) noRow;
 }
+
+abbrev pub messageFrom : Site → ℕ → ℕ → ℕ → Message
+messageFrom s p from to = messageOf (voteAt (s .votes) p .verdict) (s .oks) (s .others) p from to
 
 -- a site that holds nothing of place p any more
 unfoldable pub forgotten : ℕ → ℕ → Site → Site

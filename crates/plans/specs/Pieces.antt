@@ -31,8 +31,7 @@ use Rattle.plans.specs.Changes.{stored, messageFrom}
 use Rattle.plans.specs.declared.answer.Answer.{Answer}
 use Rattle.plans.specs.declared.begin.Entry.{Entry}
 use Rattle.plans.specs.declared.hearing.Heard.{Heard}
-use Rattle.plans.specs.declared.hearing.Ruling.{Ruling}
-use Rattle.plans.specs.declared.messages.Delivery.{Delivery}
+use Rattle.plans.specs.declared.hearing.Hearing.{Hearing}
 use Rattle.plans.specs.declared.messages.Post.{Post}
 use Rattle.plans.specs.declared.retire.Leaving.{Leaving}
 use Rattle.plans.specs.declared.sites.Turn.{Turn}
@@ -132,22 +131,18 @@ receivedAlone n me heads s p q sent oks others =
     (cond (isOpen sent) (heardAlone n me heads s p q oks others) (record { site = s; due = sent }))
     (unruled s)
 
--- nothing is ruled, and this is left
-abbrev pub waits : Site → Verdict → Ruling
-waits s due = record { site = s; accepted = 0; rejected = 0; due = due }
+-- a step with this number at which nothing is ruled, and a verdict that is left
+abbrev pub leftWith : ℕ → Site → Verdict → Hearing
+leftWith number s due = record { answer = refusal number; site = s; due = due }
 
--- the verdict that was due falls, where the queue is empty after it; else it is left
-unfoldable pub settledAlone : Heard → ℕ → Request → Ruling
+-- the verdict that was due falls, where nothing waits in the queue; else it is left
+unfoldable pub settledAlone : Heard → ℕ → Request → Hearing
 settledAlone h p q =
-    let s : Site = ruled (h .site) q p (h .due) in
-    cond (isOpen (h .due)) (waits (h .site) (h .due))
-    (cond (not (eqb (s .waiting) 0)) (waits (h .site) (h .due))
-    (record { site = s; accepted = acceptsOf (h .due); rejected = rejectsOf (h .due); due = verdict.Open }))
+    cond (isOpen (h .due)) (leftWith 0 (h .site) (h .due))
+    (cond (not (eqb (h .site .waiting) 0)) (leftWith 0 (h .site) (h .due))
+    (record { answer = results (pos 0) 0 (acceptsOf (h .due)) (rejectsOf (h .due)); site = ruled (h .site) q p (h .due); due = verdict.Open }))
 
 -- ---- 3 deliver
-
-abbrev pub keptAs : ℕ → Site → Delivery
-keptAs number s = record { answer = refusal number; site = s; due = verdict.Open }
 
 -- the request that a message names, which is none where its place is above 15
 abbrev pub requestNamed : Message → Request → Request
@@ -157,14 +152,12 @@ unfoldable pub deliverNumberOf : ℕ → Message → Site → ℕ
 deliverNumberOf j m s = cond (not (noMessageThere j m) && not (ltb (m .to) 7 && s .up)) 4 (cond (noMessageThere j m) 13 0)
 
 -- what comes of it at the site
-unfoldable pub deliveredAlone : ℕ → Message → List Head → Site → Request → Delivery
-deliveredAlone n m heads s q =
-    let r : Ruling = settledAlone (receivedAlone n (m .to) heads s (m .request) q (m .verdict) (m .oks) (m .others)) (m .request) q in
-    record { answer = results (pos 0) 0 (r .accepted) (r .rejected); site = r .site; due = r .due }
+unfoldable pub deliveredAlone : ℕ → Message → List Head → Site → Request → Hearing
+deliveredAlone n m heads s q = settledAlone (receivedAlone n (m .to) heads s (m .request) q (m .verdict) (m .oks) (m .others)) (m .request) q
 
-unfoldable pub deliverPlan : ℕ → ℕ → Message → List Head → Site → Request → Delivery
+unfoldable pub deliverPlan : ℕ → ℕ → Message → List Head → Site → Request → Hearing
 deliverPlan n j m heads s q =
-    cond (eqb (deliverNumberOf j m s) 0) (deliveredAlone n m heads s (requestNamed m q)) (keptAs (deliverNumberOf j m s) s)
+    cond (eqb (deliverNumberOf j m s) 0) (deliveredAlone n m heads s (requestNamed m q)) (leftWith (deliverNumberOf j m s) s verdict.Open)
 
 -- ---- 1 begin
 
@@ -173,8 +166,8 @@ unbegun number q s = record { answer = refusal number; request = q; site = s; du
 
 unfoldable pub enteredAlone : ℕ → ℕ → List Head → Site → ℕ → Request → ℕ → Entry
 enteredAlone n me heads s p q last =
-    let r : Ruling = settledAlone (takenUpAlone n me (set heads (within p 15) (headOf q)) (withLast last s) p q) p q in
-    record { answer = results (pos (q .stamp)) p (r .accepted) (r .rejected); request = q; site = r .site; due = r .due }
+    let r : Hearing = settledAlone (takenUpAlone n me (set heads (within p 15) (headOf q)) (withLast last s) p q) p q in
+    record { answer = results (pos (q .stamp)) p (r .answer .accepted) (r .answer .rejected); request = q; site = r .site; due = r .due }
 
 -- the stamp that the site issues
 abbrev pub issueAt : Site → Step → Issue

@@ -5,6 +5,7 @@ ghost use mathlib.Core.Bool.{cond};
 ghost use lib.IntN.{pos};
 ghost use lib.ListN.{getD};
 ghost use Rattle.kit.specs.Lists.{listed};
+ghost use Rattle.record.specs.Records.{stepFrom};
 ghost use Rattle.sets.specs.Sets.{member};
 ghost use Rattle.plans.specs.Pieces.{unbegun, enteredAlone, beginPlan};
 ghost use Rattle.plans.specs.Changes.{stored};
@@ -16,7 +17,7 @@ use crate::places::clamp;
 use crate::sites::is_site;
 use clock::Clock;
 use clock::issue_from;
-use record::Step;
+use record::Brief;
 use stamps::Issue;
 use table::requests::are_base_stamps_allowed;
 use table::requests::are_sets_allowed;
@@ -34,8 +35,8 @@ fn stamp_if(taken: bool, stamp: u64) -> u64
 }
 
 // The base stamps of the base items, 0 for the others.
-fn stored_stamps(base: u32, stamps: [u64; 24]) -> [u64; 24]
-    ensures { λ r. ⌜ r ≡ listed 24 (λ i. cond (member base i) (getD stamps i 0) 0) ⌝ }
+fn stored_stamps(base: u32, stamps: &[u64; 24]) -> [u64; 24]
+    ensures { λ r. ⌜ r ≡ listed 24 (λ i. cond (member base i) (getD (now (stamps .entry)) i 0) 0) ⌝ }
 {
     let mut r = [0u64; 24];
     for i in 0..24 {
@@ -51,8 +52,8 @@ fn value_if(taken: bool, value: i32) -> i32
 }
 
 // The values of the update items, 0 for the others.
-fn stored_values(update: u32, values: [i32; 24]) -> [i32; 24]
-    ensures { λ r. ⌜ r ≡ listed 24 (λ i. cond (member update i) (getD values i (pos 0)) (pos 0)) ⌝ }
+fn stored_values(update: u32, values: &[i32; 24]) -> [i32; 24]
+    ensures { λ r. ⌜ r ≡ listed 24 (λ i. cond (member update i) (getD (now (values .entry)) i (pos 0)) (pos 0)) ⌝ }
 {
     let mut r = [0i32; 24];
     for i in 0..24 {
@@ -62,13 +63,11 @@ fn stored_values(update: u32, values: [i32; 24]) -> [i32; 24]
 }
 
 // The request that is stored.
-fn stored_request(a: Step, stamp: u64) -> Request
-    ensures { λ r. ⌜ r ≡ stored a stamp ⌝ }
+fn stored_request(a: Brief, based: &[u64; 24], given: &[i32; 24], stamp: u64) -> Request
+    ensures { λ r. ⌜ r ≡ stored (stepFrom a (now (based .entry)) (now (given .entry))) stamp ⌝ }
 {
-    let given_stamps = a.stamps;
-    let given_values = a.values;
-    let stamps = stored_stamps(a.base, given_stamps);
-    let values = stored_values(a.update, given_values);
+    let stamps = stored_stamps(a.base, based);
+    let values = stored_values(a.update, given);
     Request {
         stamp,
         base: a.base,
@@ -105,7 +104,10 @@ fn enter(n: u8, me: u8, mut heads: [Head; 16], mut s: Site, p: u8, q: Request, l
 {
     heads[clamp(kit::index(p), 15)] = head_of(q);
     s.last = last;
-    let r = settle(take_up(n, me, heads, s, p, q), p, q);
+    let h = take_up(n, me, heads, s, p, q);
+    let t = h.site;
+    let called = h.due;
+    let r = settle(t, p, q, called);
     let site = r.site;
     let due = r.due;
     Entry {
@@ -113,8 +115,8 @@ fn enter(n: u8, me: u8, mut heads: [Head; 16], mut s: Site, p: u8, q: Request, l
             number: 0,
             first: q.stamp as i64,
             second: kit::wide(p),
-            accepted: r.accepted,
-            rejected: r.rejected,
+            accepted: r.answer.accepted,
+            rejected: r.answer.rejected,
         },
         request: q,
         site,
@@ -122,9 +124,18 @@ fn enter(n: u8, me: u8, mut heads: [Head; 16], mut s: Site, p: u8, q: Request, l
     }
 }
 
-// Step 1 at the site s. The lowest free request place is p, and q stands there.
-pub fn begin(n: u8, heads: [Head; 16], s: Site, p: u8, q: Request, a: Step) -> Entry
-    ensures { λ r. ⌜ r ≡ beginPlan n heads s p q a ⌝ }
+// Step 1 at the site s: the record a with its stamps and values. The lowest free request place is p, and q stands there.
+pub fn begin(
+    n: u8,
+    heads: [Head; 16],
+    s: Site,
+    p: u8,
+    q: Request,
+    a: Brief,
+    stamps: &[u64; 24],
+    values: &[i32; 24],
+) -> Entry
+    ensures { λ r. ⌜ r ≡ beginPlan n heads s p q (stepFrom a (now (stamps .entry)) (now (values .entry))) ⌝ }
 {
     if !is_site(n, a.site) {
         return leave_out(3, q, s);
@@ -135,11 +146,9 @@ pub fn begin(n: u8, heads: [Head; 16], s: Site, p: u8, q: Request, a: Step) -> E
     if !are_sets_allowed(a.base, a.update) {
         return leave_out(5, q, s);
     }
-    let based = a.stamps;
-    if !are_base_stamps_allowed(n, a.base, based) {
+    if !are_base_stamps_allowed(n, a.base, stamps) {
         return leave_out(6, q, s);
     }
-    let values = a.values;
     if !are_values_allowed(a.update, values) {
         return leave_out(7, q, s);
     }
@@ -147,7 +156,7 @@ pub fn begin(n: u8, heads: [Head; 16], s: Site, p: u8, q: Request, a: Step) -> E
         site: a.site,
         last: s.last,
     };
-    let out = issue_from(record, a.clock, a.base, &based);
+    let out = issue_from(record, a.clock, a.base, stamps);
     let issue = out.answer;
     match issue {
         Issue::Past => leave_out(8, q, s),
@@ -155,7 +164,15 @@ pub fn begin(n: u8, heads: [Head; 16], s: Site, p: u8, q: Request, a: Step) -> E
             if p == 16 {
                 return leave_out(9, q, s);
             }
-            enter(n, a.site - 1, heads, s, p, stored_request(a, stamp), last)
+            enter(
+                n,
+                a.site - 1,
+                heads,
+                s,
+                p,
+                stored_request(a, stamps, values, stamp),
+                last,
+            )
         }
     }
 }

@@ -2,7 +2,7 @@
 // places.
 pub mod answer;
 pub mod begin;
-mod hearing;
+pub mod hearing;
 pub mod messages;
 pub mod places;
 pub mod retire;

@@ -4,32 +4,38 @@ ghost use mathlib.Core.Bool.{not, _||_, cond};
 ghost use lib.Dec.{ltb};
 ghost use Rattle.vote.specs.Data.{isOk, isOther, isOpen, blankRequest};
 ghost use Rattle.vote.specs.Voters.{votersOf, noRow};
-ghost use Rattle.plans.specs.Pieces.{postedAs, tellPlan, dropPlan, keptAs, deliverPlan};
-ghost use Rattle.plans.specs.Changes.{messageFrom};
+ghost use Rattle.plans.specs.Pieces.{postedAs, tellPlan, dropPlan, deliverPlan};
+ghost use Rattle.plans.specs.Changes.{messageOf};
 use crate::answer::Answer;
 use crate::answer::give;
 use crate::answer::refuse;
-use crate::hearing::receive;
+use crate::hearing::Hearing;
+use crate::hearing::leave_due;
 use crate::hearing::settle;
+use crate::hearing::take_up;
 use crate::sites::is_site;
 use table::data::Message;
 use table::fresh::blank_message;
 use vote::consider::is_ok;
 use vote::consider::is_open;
 use vote::consider::is_other;
+use vote::consider::is_unmarked;
 use vote::data::Head;
 use vote::data::Request;
 use vote::data::Site;
 use vote::data::Verdict;
 use vote::data::Vote;
 use vote::requests::blank_request;
+use vote::requests::head_of;
+use vote::verdicts::verdict_due;
+use vote::voters::join_voters;
 use vote::voters::no_voters;
 use vote::voters::voters_of;
 use vote::voting::vote_at;
 
 // What a site tells of voters at place p: those that it knows while it holds the request open, else none.
-fn voters_told(held_open: bool, known: [bool; 112], p: u8) -> [bool; 7]
-    ensures { λ r. ⌜ r ≡ cond held_open (votersOf known p) noRow ⌝ }
+fn voters_told(held_open: bool, known: &[bool; 112], p: u8) -> [bool; 7]
+    ensures { λ r. ⌜ r ≡ cond held_open (votersOf (now (known .entry)) p) noRow ⌝ }
 {
     if held_open {
         return voters_of(known, p);
@@ -37,26 +43,28 @@ fn voters_told(held_open: bool, known: [bool; 112], p: u8) -> [bool; 7]
     no_voters()
 }
 
-// What site `from` tells of place p: its known voters while open, else its verdict.
-fn message_from(s: Site, p: u8, from: u8, to: u8) -> Message
-    ensures { λ r. ⌜ r ≡ messageFrom s p from to ⌝ }
+// What site `from` tells of place p: its known voters while it holds the request open, else its verdict.
+fn message_from<'a>(
+    verdict: Verdict,
+    oks: &'a [bool; 112],
+    others: &'a [bool; 112],
+    p: u8,
+    from: u8,
+    to: u8,
+) -> Message
+    ensures { λ r. ⌜ r ≡ messageOf verdict (now (oks .entry)) (now (others .entry)) p from to ⌝ }
 {
-    let votes = s.votes;
-    let v = vote_at(votes, p);
-    let verdict = v.verdict;
     let held_open = is_open(verdict);
-    let known_oks = s.oks;
-    let known_others = s.others;
-    let oks = voters_told(held_open, known_oks, p);
-    let others = voters_told(held_open, known_others, p);
+    let told_oks = voters_told(held_open, oks, p);
+    let told_others = voters_told(held_open, others, p);
     Message {
         used: true,
         request: p,
         from,
         to,
         verdict,
-        oks,
-        others,
+        oks: told_oks,
+        others: told_others,
     }
 }
 
@@ -120,9 +128,10 @@ pub fn tell(n: u8, from: u8, to: u8, s: Site, p: u8, j: u8, m: Message) -> Post
     if j == 64 {
         return keep(12, m);
     }
+    let verdict = v.verdict;
     Post {
         answer: give(j as i64, 0),
-        message: message_from(s, p, teller, receiver),
+        message: message_from(verdict, &s.oks, &s.others, p, teller, receiver),
     }
 }
 
@@ -142,24 +151,6 @@ pub fn drop(j: u8, m: Message) -> Post
     }
 }
 
-// The answer, the site, and the verdict that is left to `resolve`: Open where none.
-pub struct Delivery {
-    pub answer: Answer,
-    pub site: Site,
-    pub due: Verdict,
-}
-
-// A site that is left as it was.
-fn stay(number: u8, site: Site) -> Delivery
-    ensures { λ r. ⌜ r ≡ keptAs number site ⌝ }
-{
-    Delivery {
-        answer: refuse(number),
-        site,
-        due: Verdict::Open,
-    }
-}
-
 // The request q, where p is a request place; else none.
 fn request_there(p: u8, q: Request) -> Request
     ensures { λ r. ⌜ r ≡ cond (ltb p 16) q blankRequest ⌝ }
@@ -170,39 +161,49 @@ fn request_there(p: u8, q: Request) -> Request
     q
 }
 
-// Step 3: the message m at message place j, which names the request q, comes to the site s.
-pub fn deliver(n: u8, j: u8, m: Message, heads: [Head; 16], s: Site, q: Request) -> Delivery
+// Step 3: the message m at message place j, which names the request q, comes to the site s. A verdict held there already keeps it as it is,
+// one that is sent is taken over; else the voters are joined, and a request not marked yet is considered.
+pub fn deliver(n: u8, j: u8, m: Message, heads: [Head; 16], mut s: Site, q: Request) -> Hearing
     ensures { λ r. ⌜ r ≡ deliverPlan n j m heads s q ⌝ }
 {
     if 63 < j {
-        return stay(13, s);
+        return leave_due(13, s, Verdict::Open);
     }
     if !m.used {
-        return stay(13, s);
+        return leave_due(13, s, Verdict::Open);
     }
     if 6 < m.to {
-        return stay(4, s);
+        return leave_due(4, s, Verdict::Open);
     }
     if !s.up {
-        return stay(4, s);
+        return leave_due(4, s, Verdict::Open);
     }
-    let named = request_there(m.request, q);
+    let p = m.request;
+    let votes = s.votes;
+    let v = vote_at(votes, p);
+    let held = v.verdict;
+    if !is_open(held) {
+        return leave_due(0, s, Verdict::Open);
+    }
+    let named = request_there(p, q);
     let sent = m.verdict;
+    if !is_open(sent) {
+        return settle(s, p, named, sent);
+    }
     let oks = m.oks;
     let others = m.others;
-    let h = receive(n, m.to, heads, s, m.request, named, sent, oks, others);
-    let r = settle(h, m.request, named);
-    let site = r.site;
-    let due = r.due;
-    Delivery {
-        answer: Answer {
-            number: 0,
-            first: 0,
-            second: 0,
-            accepted: r.accepted,
-            rejected: r.rejected,
-        },
-        site,
-        due,
+    join_voters(&mut s.oks, p, oks);
+    join_voters(&mut s.others, p, others);
+    let due = verdict_due(&s.oks, &s.others, n, p);
+    if !is_open(due) {
+        return settle(s, p, named, due);
     }
+    let mark = v.mark;
+    if !is_unmarked(mark) {
+        return leave_due(0, s, Verdict::Open);
+    }
+    let h = take_up(n, m.to, heads, s, p, named);
+    let site = h.site;
+    let next = h.due;
+    settle(site, p, named, next)
 }

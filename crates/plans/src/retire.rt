@@ -88,14 +88,10 @@ pub fn forget(mut s: Site, p: u8) -> Site
     ensures { λ r. ⌜ r ≡ forgotten p 0 s ⌝ }
 {
     let votes = s.votes;
-    let oks = s.oks;
-    let others = s.others;
-    let fewer_votes = clear_vote(votes, p);
-    let fewer_oks = clear_voters(oks, p);
-    let fewer_others = clear_voters(others, p);
-    s.votes = fewer_votes;
-    s.oks = fewer_oks;
-    s.others = fewer_others;
+    let fewer = clear_vote(votes, p);
+    s.votes = fewer;
+    clear_voters(&mut s.oks, p);
+    clear_voters(&mut s.others, p);
     s
 }
 

@@ -3,12 +3,12 @@ use mathlib.Core.Path.{_≡_}
 use mathlib.Core.List.{List}
 use Prim.Native.Nat.{ℕ, _≤_, _<_}
 use native.Mathlib.Omega.{arith}
-use borrow.Author.Tests.{ne-eqb, le-leb, lt-leb}
+use borrow.Author.Tests.{eq-eqb, ne-eqb, le-leb, lt-leb}
 use lib.ListN.{length}
 use Rattle.record.specs.Bodies.{beginLength, beginStep, tellStep, placeStep, siteStep, retireStep, readStep}
-use Rattle.record.specs.Records.{asked, refused, answered, bodyRead}
+use Rattle.record.specs.Records.{asked, refused, taken, answered, bodyRead, briefOf}
 use Rattle.record.specs.Records.Asked.{unknown, known}
-use Rattle.record.specs.declared.Record.{Record}
+use Rattle.record.specs.declared.Brief.{Brief}
 use Rattle.record.specs.declared.Step.{Step}
 
 -- ---- the code is one, or in a range
@@ -50,13 +50,21 @@ module _ (c : ℕ) (b : List ℕ) where
 
 -- ---- the answer
 
--- `r` answers that the code asks for m′ bytes, which are the step s
-pub answer-known : (c : ℕ) (b : List ℕ) (next : ℕ) {m m′ : ℕ} {step s : Step} {r : Record} → asked c b ≡ known m step → m′ ≡ m → s ≡ step
-    → r ≡ answered (known m′ s) (length b) next → r ≡ bodyRead c b next
+-- `r` answers that the code asks for m′ bytes, which are the step
+pub answer-known : (c : ℕ) (b : List ℕ) (next : ℕ) {m m′ : ℕ} {step : Step} {r : Brief} → asked c b ≡ known m step → m′ ≡ m
+    → r ≡ briefOf (answered (known m′ step) (length b) next) → r ≡ briefOf (bodyRead c b next)
 unfolding bodyRead
-answer-known c b next e l h a = rw (e, ← l, ← h) a
+answer-known c b next e l a = rw (e, ← l) a
 
 -- `r` answers that the code is no step
-pub answer-unknown : (c : ℕ) (b : List ℕ) (next : ℕ) {r : Record} → asked c b ≡ unknown → r ≡ refused 2 next → r ≡ bodyRead c b next
+pub answer-unknown : (c : ℕ) (b : List ℕ) (next : ℕ) {r : Brief} → asked c b ≡ unknown → r ≡ briefOf (refused 2 next) → r ≡ briefOf (bodyRead c b next)
 unfolding bodyRead
 answer-unknown c b next e a = rw e a
+
+-- a body of another length than was asked for, and one of that length
+module _ (next : ℕ) (step : Step) {n m : ℕ} {r : Brief} where
+  pub sized-wrong : (n ≡ m → ⊥) → r ≡ briefOf (refused 17 next) → r ≡ briefOf (answered (known m step) n next)
+  sized-wrong h e = rw (ne-eqb n m h) e
+
+  pub sized-right : n ≡ m → r ≡ briefOf (taken next step) → r ≡ briefOf (answered (known m step) n next)
+  sized-right h e = rw (eq-eqb n m h) e

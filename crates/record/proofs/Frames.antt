@@ -7,7 +7,6 @@ use native.Mathlib.Omega.{arith}
 use borrow.Author.Tests.{lt-ltb, le-ltb}
 use lib.ListN.{length, take, drop}
 use Rattle.record.specs.Records.{codeOf, lengthOf, bodyOf, endOf, refused, bodyRead, isCut, recordOf}
-use Rattle.record.specs.declared.Record.{Record}
 
 module _ (s : List ℕ) where
   -- fewer than three header bytes
@@ -24,9 +23,9 @@ module _ (s : List ℕ) where
   unfolding isCut
   not-cut h l = rw (le-ltb (length s) 3 h, le-ltb (length s) (endOf s) l)
 
-  pub record-cut : {r : Record} → isCut s ≡ true → r ≡ refused 17 0 → r ≡ recordOf s
+  pub record-cut : isCut s ≡ true → recordOf s ≡ refused 17 0
   unfolding recordOf
-  record-cut e h = rw (e, h)
+  record-cut e = rw e
 
   pub record-whole : isCut s ≡ false → recordOf s ≡ bodyRead (codeOf s) (bodyOf s) (endOf s)
   unfolding recordOf

@@ -50,7 +50,7 @@ module _ (s : List ℕ) where
   -- ---- where the next record starts
 
   pub next-cut : isCut s ≡ true → recordOf s .next ≡ 0
-  next-cut e = ap (λ (r : Record). r .next) (sym (record-cut s e refl))
+  next-cut e = ap (λ (r : Record). r .next) (record-cut s e)
 
   -- whether it is refused or not
   pub next-whole : isCut s ≡ false → recordOf s .next ≡ 3 + lengthOf s
@@ -59,6 +59,10 @@ module _ (s : List ℕ) where
   -- a caller that finds a next record knows that this one is not cut
   pub whole-next : (recordOf s .next ≡ 0 → ⊥) → isCut s ≡ false
   whole-next h = by-test (isCut s) (λ t. absurd (h (next-cut t))) (λ f. f)
+
+  -- and one that finds none, that it is
+  pub cut-next : recordOf s .next ≡ 0 → isCut s ≡ true
+  cut-next h = by-test (isCut s) (λ t. t) (λ f. absurd (let e = next-whole f in let z : ⊥ = omega arith in z))
 
   pub next-inside : recordOf s .next ≤ length s
   next-inside = by-test (isCut s) (λ t. rw (next-cut t) (omega arith)) (λ f. rw (next-whole f) (has-body f))
@@ -81,7 +85,7 @@ module _ (s : List ℕ) where
 -- ---- the code
 
 -- what a code asks for is a step of that code, from 1 to 8
-asked-code : (c : ℕ) (b : List ℕ) (m : ℕ) (t : Step) → asked c b ≡ known m t → (t .code ≡ c) × (1 ≤ c) × (c ≤ 8)
+pub asked-code : (c : ℕ) (b : List ℕ) (m : ℕ) (t : Step) → asked c b ≡ known m t → (t .code ≡ c) × (1 ≤ c) × (c ≤ 8)
 unfolding asked beginStep tellStep placeStep siteStep retireStep readStep
 asked-code c b m t e = subst Coded e each
   where

@@ -4,3 +4,4 @@ pub mod Codes
 pub mod Frames
 pub mod Cases
 pub mod Laws
+pub mod Briefs

@@ -3,9 +3,11 @@ use Prim.Native.Nat.{ℕ, _+_}
 use mathlib.Core.Bool.{Bool, _&&_, _||_, cond}
 use mathlib.Core.List.{List}
 use lib.Dec.{eqb, leb, ltb}
+use lib.IntN.{ℤ}
 use lib.ListN.{length, getD, take, drop}
 use Rattle.kit.specs.Bytes.{fieldAt}
 use Rattle.record.specs.Bodies.{blankStep, beginLength, beginStep, tellStep, placeStep, siteStep, retireStep, readStep}
+use Rattle.record.specs.declared.Brief.{Brief}
 use Rattle.record.specs.declared.Record.{Record}
 use Rattle.record.specs.declared.Step.{Step}
 
@@ -71,3 +73,36 @@ isCut s = ltb (length s) 3 || ltb (length s) (endOf s)
 -- the record that the bytes s start with; a cut one has no next
 unfoldable pub recordOf : List ℕ → Record
 recordOf s = cond (isCut s) (refused 17 0) (bodyRead (codeOf s) (bodyOf s) (endOf s))
+
+-- ---- a record without a begin's stamps and values
+
+unfoldable pub briefOf : Record → Brief
+briefOf r = record {
+  number = r .number;
+  next = r .next;
+  code = r .step .code;
+  site = r .step .site;
+  to = r .step .to;
+  item = r .step .item;
+  place = r .step .place;
+  clock = r .step .clock;
+  stamp = r .step .stamp;
+  base = r .step .base;
+  update = r .step .update;
+}
+
+-- the step of such a record, with these stamps and values
+abbrev pub stepFrom : Brief → List ℕ → List ℤ → Step
+stepFrom r stamps values = record {
+  code = r .code;
+  site = r .site;
+  to = r .to;
+  item = r .item;
+  place = r .place;
+  clock = r .clock;
+  stamp = r .stamp;
+  base = r .base;
+  update = r .update;
+  stamps = stamps;
+  values = values;
+}

@@ -1,12 +1,15 @@
-// A reader for each kind of body: what stands behind the three header bytes, handed on as it is. A field that the body is too short for
-// reads as 0; such a body is not of the length that its code asks for, and its record is refused.
+// A reader for each kind of body: what stands behind the three header bytes, handed on as it is. A body that is not of the length that its
+// code asks for is refused. A field that a body is too short for reads as 0.
 ghost use mathlib.Core.Path.{_≡_};
 ghost use Prim.Native.Nat.{_≤_, _<_, _^_};
 ghost use lib.IntN.{pos};
 ghost use Rattle.kit.specs.Bytes.{fieldAt};
+ghost use lib.ListN.{length};
 ghost use Rattle.record.specs.Bodies.{byItem, stampAt, valueAt, beginLength, beginStep, tellStep, placeStep, siteStep, retireStep, readStep};
-use crate::Step;
-use crate::blank_step;
+ghost use Rattle.record.specs.Records.{answered, briefOf};
+ghost use Rattle.record.specs.Records.Asked.{known};
+use crate::Brief;
+use crate::no_step;
 
 // A number of 1 byte.
 fn byte_at(b: &[u8], at: usize) -> u8
@@ -68,74 +71,102 @@ fn values_from(b: &[u8], start: usize, set: u32) -> [i32; 24]
     r
 }
 
-// Begin: site, clock, base set, update set, stamps by rising item, values by rising item.
-pub fn read_begin(b: &[u8]) -> Step
-    ensures { λ r. ⌜ r ≡ beginStep (now (b .entry)) ⌝ }
+// A begin's stamps, which stand behind its sets.
+pub fn begin_stamps(b: &[u8]) -> [u64; 24]
+    ensures { λ r. ⌜ r ≡ beginStep (now (b .entry)) .stamps ⌝ }
+{
+    stamps_from(b, 11, word_at(b, 5, 3))
+}
+
+// A begin's values, which stand behind its stamps.
+pub fn begin_values(b: &[u8]) -> [i32; 24]
+    ensures { λ r. ⌜ r ≡ beginStep (now (b .entry)) .values ⌝ }
 {
     let base = word_at(b, 5, 3);
     let update = word_at(b, 8, 3);
-    let stamps = stamps_from(b, 11, base);
-    let values = values_from(b, 11 + 5 * (sets::count(base) as usize), update);
-    let mut s = blank_step();
-    s.code = 1;
-    s.site = byte_at(b, 0);
-    s.clock = word_at(b, 1, 4);
-    s.base = base;
-    s.update = update;
-    s.stamps = stamps;
-    s.values = values;
-    s
+    values_from(b, 11 + 5 * (sets::count(base) as usize), update)
+}
+
+// Begin: site, clock, base set, update set; then stamps by rising item and values by rising item, which are left where they are.
+pub fn read_begin(right: usize, b: &[u8], next: usize) -> Brief
+    ensures { λ r. ⌜ r ≡ briefOf (answered (known right (beginStep (now (b .entry)))) (length (now (b .entry))) next) ⌝ }
+{
+    if b.len() != right {
+        return no_step(17, next);
+    }
+    let mut r = no_step(0, next);
+    r.code = 1;
+    r.site = byte_at(b, 0);
+    r.clock = word_at(b, 1, 4);
+    r.base = word_at(b, 5, 3);
+    r.update = word_at(b, 8, 3);
+    r
 }
 
 // Tell: from, stamp, to.
-pub fn read_tell(b: &[u8]) -> Step
-    ensures { λ r. ⌜ r ≡ tellStep (now (b .entry)) ⌝ }
+pub fn read_tell(right: usize, b: &[u8], next: usize) -> Brief
+    ensures { λ r. ⌜ r ≡ briefOf (answered (known right (tellStep (now (b .entry)))) (length (now (b .entry))) next) ⌝ }
 {
-    let mut s = blank_step();
-    s.code = 2;
-    s.site = byte_at(b, 0);
-    s.stamp = kit::read_field(b, 1, 5);
-    s.to = byte_at(b, 6);
-    s
+    if b.len() != right {
+        return no_step(17, next);
+    }
+    let mut r = no_step(0, next);
+    r.code = 2;
+    r.site = byte_at(b, 0);
+    r.stamp = kit::read_field(b, 1, 5);
+    r.to = byte_at(b, 6);
+    r
 }
 
 // Deliver and drop: message place.
-pub fn read_one_place(code: u8, b: &[u8]) -> Step
-    ensures { λ r. ⌜ r ≡ placeStep code (now (b .entry)) ⌝ }
+pub fn read_one_place(right: usize, code: u8, b: &[u8], next: usize) -> Brief
+    ensures { λ r. ⌜ r ≡ briefOf (answered (known right (placeStep code (now (b .entry)))) (length (now (b .entry))) next) ⌝ }
 {
-    let mut s = blank_step();
-    s.code = code;
-    s.place = byte_at(b, 0);
-    s
+    if b.len() != right {
+        return no_step(17, next);
+    }
+    let mut r = no_step(0, next);
+    r.code = code;
+    r.place = byte_at(b, 0);
+    r
 }
 
 // Down and up: site.
-pub fn read_one_site(code: u8, b: &[u8]) -> Step
-    ensures { λ r. ⌜ r ≡ siteStep code (now (b .entry)) ⌝ }
+pub fn read_one_site(right: usize, code: u8, b: &[u8], next: usize) -> Brief
+    ensures { λ r. ⌜ r ≡ briefOf (answered (known right (siteStep code (now (b .entry)))) (length (now (b .entry))) next) ⌝ }
 {
-    let mut s = blank_step();
-    s.code = code;
-    s.site = byte_at(b, 0);
-    s
+    if b.len() != right {
+        return no_step(17, next);
+    }
+    let mut r = no_step(0, next);
+    r.code = code;
+    r.site = byte_at(b, 0);
+    r
 }
 
 // Retire: stamp.
-pub fn read_retire(b: &[u8]) -> Step
-    ensures { λ r. ⌜ r ≡ retireStep (now (b .entry)) ⌝ }
+pub fn read_retire(right: usize, b: &[u8], next: usize) -> Brief
+    ensures { λ r. ⌜ r ≡ briefOf (answered (known right (retireStep (now (b .entry)))) (length (now (b .entry))) next) ⌝ }
 {
-    let mut s = blank_step();
-    s.code = 7;
-    s.stamp = kit::read_field(b, 0, 5);
-    s
+    if b.len() != right {
+        return no_step(17, next);
+    }
+    let mut r = no_step(0, next);
+    r.code = 7;
+    r.stamp = kit::read_field(b, 0, 5);
+    r
 }
 
 // Read: site, item.
-pub fn read_read(b: &[u8]) -> Step
-    ensures { λ r. ⌜ r ≡ readStep (now (b .entry)) ⌝ }
+pub fn read_read(right: usize, b: &[u8], next: usize) -> Brief
+    ensures { λ r. ⌜ r ≡ briefOf (answered (known right (readStep (now (b .entry)))) (length (now (b .entry))) next) ⌝ }
 {
-    let mut s = blank_step();
-    s.code = 8;
-    s.site = byte_at(b, 0);
-    s.item = byte_at(b, 1);
-    s
+    if b.len() != right {
+        return no_step(17, next);
+    }
+    let mut r = no_step(0, next);
+    r.code = 8;
+    r.site = byte_at(b, 0);
+    r.item = byte_at(b, 1);
+    r
 }

@@ -2,11 +2,14 @@
 // What a record stands for is said in specs/; body.rt has a reader for each kind of body.
 mod body;
 
+ghost use mathlib.Core.Bool.{cond};
 ghost use mathlib.Core.Path.{_≡_};
+ghost use lib.Dec.{eqb};
 ghost use Rattle.record.specs.Bodies.{blankStep};
-ghost use Rattle.record.specs.Records.{answered, bodyRead, refused, recordOf};
-ghost use Rattle.record.specs.Records.Asked.{known};
+ghost use Rattle.record.specs.Records.{bodyRead, refused, recordOf, briefOf};
 use crate::body::begin_length;
+use crate::body::begin_stamps;
+use crate::body::begin_values;
 use crate::body::read_begin;
 use crate::body::read_one_place;
 use crate::body::read_one_site;
@@ -44,6 +47,21 @@ pub struct Record {
     pub step: Step,
 }
 
+// A record without a begin's stamps and values, which no other step has: its number, where the next one starts, and the fields of its step.
+pub struct Brief {
+    pub number: u8,
+    pub next: usize,
+    pub code: u8,
+    pub site: u8,
+    pub to: u8,
+    pub item: u8,
+    pub place: u8,
+    pub clock: u32,
+    pub stamp: u64,
+    pub base: u32,
+    pub update: u32,
+}
+
 // No step: every field 0.
 pub fn blank_step() -> Step
     ensures { λ r. ⌜ r ≡ blankStep ⌝ }
@@ -63,56 +81,128 @@ pub fn blank_step() -> Step
     }
 }
 
-// A refused record.
-fn refuse(number: u8, next: usize) -> Record
-    ensures { λ r. ⌜ r ≡ refused number next ⌝ }
+// A record with no step: a refused one, and with number 0 what a reader starts from.
+fn no_step(number: u8, next: usize) -> Brief
+    ensures { λ r. ⌜ r ≡ briefOf (refused number next) ⌝ }
 {
-    let step = blank_step();
-    Record { number, next, step }
-}
-
-// A record whose body has n bytes, and is a step if it has as many as its code asks for.
-fn take_sized(n: usize, right: usize, step: Step, next: usize) -> Record
-    ensures { λ r. ⌜ r ≡ answered (known right step) n next ⌝ }
-{
-    if n != right {
-        return refuse(17, next);
-    }
-    Record {
-        number: 0,
+    Brief {
+        number,
         next,
-        step,
+        code: 0,
+        site: 0,
+        to: 0,
+        item: 0,
+        place: 0,
+        clock: 0,
+        stamp: 0,
+        base: 0,
+        update: 0,
     }
 }
 
 // A complete record, by its code: how many bytes its body must have, and its step.
-fn read_body(code: u8, body: &[u8], next: usize) -> Record
-    ensures { λ r. ⌜ r ≡ bodyRead code (now (body .entry)) next ⌝ }
+fn read_body(code: u8, body: &[u8], next: usize) -> Brief
+    ensures { λ r. ⌜ r ≡ briefOf (bodyRead code (now (body .entry)) next) ⌝ }
 {
-    let n = body.len();
     match code {
-        1 => take_sized(n, begin_length(body), read_begin(body), next),
-        2 => take_sized(n, 7, read_tell(body), next),
-        3..=4 => take_sized(n, 1, read_one_place(code, body), next),
-        5..=6 => take_sized(n, 1, read_one_site(code, body), next),
-        7 => take_sized(n, 5, read_retire(body), next),
-        8 => take_sized(n, 2, read_read(body), next),
-        0 | 9..=255 => refuse(2, next),
+        1 => read_begin(begin_length(body), body, next),
+        2 => read_tell(7, body, next),
+        3..=4 => read_one_place(1, code, body, next),
+        5..=6 => read_one_site(1, code, body, next),
+        7 => read_retire(5, body, next),
+        8 => read_read(2, body, next),
+        0 | 9..=255 => no_step(2, next),
     }
 }
 
-// The record that bytes start with: a cut record is 17, else an unknown code is 2, else a wrong length is 17.
-pub fn read_record(bytes: &[u8]) -> Record
-    ensures { λ r. ⌜ r ≡ recordOf (now (bytes .entry)) ⌝ }
+// Where the record that bytes start with ends, and 0 where it is cut.
+fn end_of(bytes: &[u8]) -> usize
+    ensures { λ r. ⌜ r ≡ recordOf (now (bytes .entry)) .next ⌝ }
 {
     let len = bytes.len();
     if len < 3 {
-        return refuse(17, 0);
+        return 0;
     }
     let n = kit::read_field(bytes, 1, 2) as usize;
     let end = 3 + n;
     if len < end {
-        return refuse(17, 0);
+        return 0;
+    }
+    end
+}
+
+// The record that bytes start with: a cut record is 17, else an unknown code is 2, else a wrong length is 17.
+pub fn read_brief(bytes: &[u8]) -> Brief
+    ensures { λ r. ⌜ r ≡ briefOf (recordOf (now (bytes .entry))) ⌝ }
+{
+    let end = end_of(bytes);
+    if end == 0 {
+        return no_step(17, 0);
     }
     read_body(bytes[0], &bytes[3..end], end)
+}
+
+// Where a begin ends, and 0 where the record that bytes start with is another step or refused.
+fn end_of_begin(bytes: &[u8]) -> usize
+    ensures { λ r. ⌜ r ≡ cond (eqb (recordOf (now (bytes .entry)) .step .code) 1) (recordOf (now (bytes .entry)) .next) 0 ⌝ }
+{
+    let end = end_of(bytes);
+    if end == 0 {
+        return 0;
+    }
+    if bytes[0] != 1 {
+        return 0;
+    }
+    if end - 3 != begin_length(&bytes[3..end]) {
+        return 0;
+    }
+    end
+}
+
+// Its stamps by item: those of a begin, and 0 where it is another step or refused.
+pub fn read_stamps(bytes: &[u8]) -> [u64; 24]
+    ensures { λ r. ⌜ r ≡ recordOf (now (bytes .entry)) .step .stamps ⌝ }
+{
+    let end = end_of_begin(bytes);
+    if end == 0 {
+        return [0u64; 24];
+    }
+    begin_stamps(&bytes[3..end])
+}
+
+// Its values by item, in the same way.
+pub fn read_values(bytes: &[u8]) -> [i32; 24]
+    ensures { λ r. ⌜ r ≡ recordOf (now (bytes .entry)) .step .values ⌝ }
+{
+    let end = end_of_begin(bytes);
+    if end == 0 {
+        return [0i32; 24];
+    }
+    begin_values(&bytes[3..end])
+}
+
+// The whole record.
+pub fn read_record(bytes: &[u8]) -> Record
+    ensures { λ r. ⌜ r ≡ recordOf (now (bytes .entry)) ⌝ }
+{
+    let r = read_brief(bytes);
+    let stamps = read_stamps(bytes);
+    let values = read_values(bytes);
+    Record {
+        number: r.number,
+        next: r.next,
+        step: Step {
+            code: r.code,
+            site: r.site,
+            to: r.to,
+            item: r.item,
+            place: r.place,
+            clock: r.clock,
+            stamp: r.stamp,
+            base: r.base,
+            update: r.update,
+            stamps,
+            values,
+        },
+    }
 }

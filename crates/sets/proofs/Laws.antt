@@ -4,6 +4,7 @@ use mathlib.Core.Path.{_≡_, refl, sym, ap, ap₂, _∙_, subst}
 use mathlib.Core.Bool.{Bool, true, false, not, _&&_, _||_, and-false, or-false}
 use Prim.Native.Nat.{ℕ, zero, suc, _+_, _-_, _*_, _/_, _%_, _^_, _≤_, _<_}
 use native.Mathlib.Nat.{div-div-eq-div-mul, mul-comm, pow-suc, mod-lt, zero-lt-suc, div-one, div-add-mod', not-suc-le-zero, le-of-suc-le-suc, add-comm, lt-of-le-of-lt, mul-div-cancel, mul-mod-left, one-mul, mod-eq-of-lt, div-eq-of-lt, lt-of-lt-of-le, mod-le}
+use native.Mathlib.Numerals.{add-one}
 use native.Mathlib.Omega.{arith}
 use borrow.Author.Tests.{eqb-true, eqb-false, eq-eqb, ne-eqb, le-leb, lt-leb, ltb-true, lt-ltb, not-true}
 use lib.Arith.{lt-one}
@@ -239,3 +240,16 @@ with-law w s i hs h =
 -- a number that has no place in the word changes nothing
 pub with-none : (w s i : ℕ) → s < 2 ^ w → w ≤ i → s ≡ setOf w (λ j. member s j || eqb i j)
 with-none w s i hs h = set-is w s (λ j. member s j || eqb i j) hs (λ j l. let ne : eqb i j ≡ false = ne-eqb i j (λ e. omega arith) in rw (ne, or-false))
+
+-- `s + (t << j)`, where t is 1 or 0: one place more of a set that is made from place 0 on
+module _ (w j : ℕ) (p : ℕ → Bool) {s d : ℕ} (h : j < w) (e : s ≡ setOf j p) (f : d ≡ one (p j)) where
+  pub made-more : s + d * 2 ^ j % 2 ^ w ≡ setOf (j + 1) p
+  unfolding setOf
+  made-more = rw (e, f, add-one j) (ap (λ (x : ℕ). setOf j p + x) (mod-eq-of-lt (go (p j) (pow-lt h))))
+    where
+      go : (b : Bool) → 2 ^ j < 2 ^ w → one b * 2 ^ j < 2 ^ w
+      go true l = rw (one-mul (2 ^ j)) l
+      go false l = omega arith
+
+  pub made-lt : s + d * 2 ^ j % 2 ^ w < 2 ^ w
+  made-lt = rw made-more (lt-of-lt-of-le (setOf-lt (j + 1) p) (pow-mono (let l : j + 1 ≤ w = omega arith in l)))

@@ -19,7 +19,7 @@ use Rattle.plans.specs.Changes.{messageFrom, forgotten, stored}
 use Rattle.plans.specs.Pieces.{within, usedOf, messageFor, siteFor, placeFor, tellNumberOf, tellPlan, dropNumberOf, dropPlan, noMessageThere, requestNamed, deliverNumberOf, deliveredAlone, deliverPlan, issueAt, beginNumberOf, enteredAlone, beginPlan, downNumberOf, downPlan, upNumberOf, upPlan, retireNumberOf, retirePlan, readNumberOf, readPlan}
 use Rattle.plans.specs.declared.answer.Answer.{Answer}
 use Rattle.plans.specs.declared.begin.Entry.{Entry}
-use Rattle.plans.specs.declared.messages.Delivery.{Delivery}
+use Rattle.plans.specs.declared.hearing.Hearing.{Hearing}
 use Rattle.plans.specs.declared.messages.Post.{Post}
 use Rattle.plans.specs.declared.retire.Leaving.{Leaving}
 use Rattle.plans.specs.declared.sites.Turn.{Turn}
@@ -45,7 +45,7 @@ use Rattle.steps.specs.Steps.{issueFor, entered, begun, told, delivered,
 use Rattle.steps.specs.declared.answer.Stepped.{Stepped}
 use Rattle.steps.proofs.Advancing.{code-1, code-2, code-3, code-4, code-5, code-6, code-7, code-8, code-0, code-none}
 use Rattle.steps.proofs.Allowed.{site-index, free-place, free-message, message-there, may-begin, may-tell, may-deliver, may-drop, may-down, may-up, may-read, may-retire, named-place, MayTell, MayBegin, MayRetire}
-use Rattle.steps.proofs.Settling.{received-is, settled-is, entered-is}
+use Rattle.steps.proofs.Settling.{received-is, settled-answer, settled-is, entered-is}
 use Rattle.steps.proofs.Summaries.{free-place-is, place-of-is, free-message-is, heads-set, used-set}
 
 -- a table of at most 7 sites, its lists as long as the arrays in memory, and its two summaries
@@ -290,7 +290,7 @@ module _ {t : Table} {a : Step} {heads : List Head} {used : List Bool} {j x k p 
       by-lt (messageAt t x .request) 16 (λ l. rw (place-low (rw p-is l), p-is)) (λ l. rw (le-ltb (messageAt t x .request) 16 l))
 
   deliver-done
-      : a .code ≡ 3 → a .place < 64 → messageAt t x .to < 7 → {c : Delivery} → c ≡ deliveredAlone (t .count) (messageAt t x) heads (siteAt t k) (requestNamed (messageAt t x) (placeAt t i))
+      : a .code ≡ 3 → a .place < 64 → messageAt t x .to < 7 → {c : Hearing} → c ≡ deliveredAlone (t .count) (messageAt t x) heads (siteAt t k) (requestNamed (messageAt t x) (placeAt t i))
       → finished k p (c .due) (withSite k (c .site) t) (c .answer) ≡ steppedAs (delivered t a)
   unfolding deliveredAlone delivered
   deliver-done e l o hc =
@@ -298,12 +298,12 @@ module _ {t : Table} {a : Step} {heads : List Head} {used : List Bool} {j x k p 
       let j-is : j ≡ a .place = message-given (λ z. omega arith) in
       let x-is : x ≡ a .place = message-low (rw j-is l) ∙ j-is in
       let there : messageAt t x .to < length (t .sites) = rw (h .held .sites) o in
-      rw (hc, receiver-is e o, p-is, ← x-is)
+      rw (hc, settled-answer _ _ _, receiver-is e o, p-is, ← x-is)
       (settled-is t (messageAt t x .to) (messageAt t x .request) (pos 0) 0 there (named-is e) _ _
       (received-is (messageAt t x .to) (t .count) (t .requests) (messageAt t x .request) (h .held .heads-are) (named-is e) (siteAt t (messageAt t x .to)) (messageAt t x .verdict) (messageAt t x .oks) (messageAt t x .others)))
 
   pub deliver-arm
-      : a .code ≡ 3 → {c : Delivery} → c ≡ deliverPlan (t .count) j (messageAt t x) heads (siteAt t k) (placeAt t i)
+      : a .code ≡ 3 → {c : Hearing} → c ≡ deliverPlan (t .count) j (messageAt t x) heads (siteAt t k) (placeAt t i)
       → {u : Table} {w : Answer} {d : Verdict} → u ≡ withSite k (c .site) t → w ≡ c .answer → d ≡ c .due → finished k p d u w ≡ advanced t a
   unfolding deliverPlan
   deliver-arm e hc hu hw hd =

@@ -9,5 +9,6 @@ pub mod Allowed
 pub mod Upkeep
 -- Runs over a buffer of records.
 pub mod Running
+mod Briefs
 mod Turning
 pub mod Nights

@@ -177,6 +177,21 @@ module _ {whole : Part} {s out₀ : List ℕ} {end room : ℕ} where
       later : Part
       later = partAt t r nth (drop (r .next) s) (length out₀)
 
+  -- another record that is answered the same
+  pub facing-same
+      : {t : Table} {x y : Record} {out : List ℕ} {at to nth : ℕ} → answeredOn t y ≡ answeredOn t x → Facing whole s out₀ end room t x out at to nth
+      → Facing whole s out₀ end room t y out at to nth
+  facing-same e g = record {
+    all = g .all;
+    free = g .free;
+    inside = g .inside;
+    ends = g .ends;
+    long = g .long;
+    goes = g .goes;
+    answer = rw e (g .answer);
+    bytes = rw e (g .bytes);
+  }
+
   -- it is answered and its line written
   pub facing-wrote
       : {t : Table} {r : Record} {out : List ℕ} {at to nth : ℕ} → Facing whole s out₀ end room t r out at to nth

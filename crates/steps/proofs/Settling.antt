@@ -8,7 +8,7 @@ use native.Mathlib.Nat.{zero-add}
 use native.Mathlib.Omega.{arith}
 use borrow.Author.Tests.{eqb-true, lt-ltb}
 use lib.Dec.{eqb}
-use lib.IntN.{ℤ}
+use lib.IntN.{ℤ, pos}
 use lib.ListN.{length, getD, set}
 use lib.Seq.{getD-set-same, set-set}
 use Rattle.kit.proofs.Bools.{by-test}
@@ -25,7 +25,7 @@ use Rattle.vote.specs.declared.data.Head.{Head}
 use Rattle.vote.specs.declared.data.Request.{Request}
 use Rattle.vote.specs.declared.data.Site.{Site}
 use Rattle.vote.specs.declared.data.Verdict.{Verdict}
-use Rattle.walk.proofs.Walks.{walk-ends}
+use Rattle.walk.proofs.Walks.{fewer-ruled, walk-ends}
 use Rattle.walk.specs.Hearing.{settled, takenUp, heard, received}
 use Rattle.walk.specs.Walking as walking
 use Rattle.walk.specs.Walking.{Out, quiet, resolved, accepts, rejects}
@@ -68,6 +68,12 @@ module _ (me n : ℕ) (rs : List Request) (p : ℕ) {heads : List Head} {q : Req
       (λ e. by-test (isOpen sent) (λ f. rw (e, f) (heard-is s oks others)) (λ f. rw (e, f, f)))
       (λ e. rw e)
 
+-- a site that settles gives no results of its own
+pub settled-answer
+    : (h : Heard) (p : ℕ) (q : Request) → settledAlone h p q .answer ≡ results (pos 0) 0 (settledAlone h p q .answer .accepted) (settledAlone h p q .answer .rejected)
+unfolding settledAlone
+settled-answer h p q = by-test (isOpen (h .due)) (λ e. rw e) (λ e. by-test (eqb (h .site .waiting) 0) (λ f. rw (e, f)) (λ f. rw (e, f)))
+
 -- ---- in the table
 
 request-set : (rs : List Request) (p : ℕ) (q : Request) → p < 16 → length rs ≡ 16 → q ≡ requestIn (set rs p q) p
@@ -81,23 +87,23 @@ module _ (t : Table) (k p : ℕ) (first : ℤ) (second : ℕ) (l : k < length (t
 
   module _ {q : Request} (hq : q ≡ requestIn (t .requests) p) (h : Heard) where
     settled-finish
-        : finished k p (settledAlone h p q .due) (withSite k (settledAlone h p q .site) t) (results first second (settledAlone h p q .accepted) (settledAlone h p q .rejected))
+        : finished k p (settledAlone h p q .due) (withSite k (settledAlone h p q .site) t) (results first second (settledAlone h p q .answer .accepted) (settledAlone h p q .answer .rejected))
         ≡ steppedAs (doneAt k first second (ruledOut k (t .count) (t .requests) p h) t)
     unfolding finished settledAlone accepts rejects
     settled-finish =
         rw hq
         (by-test (isOpen (h .due)) (λ e. rw (e, e))
-        (λ e. by-test (eqb (ruled (h .site) (requestIn (t .requests) p) p (h .due) .waiting) 0)
+        (λ e. by-test (eqb (h .site .waiting) 0)
         (λ f.
-        let z : ruled (h .site) (requestIn (t .requests) p) p (h .due) .waiting ≡ 0 = eqb-true (ruled (h .site) (requestIn (t .requests) p) p (h .due) .waiting) 0 f in
-        let w : ruled (h .site) (requestIn (t .requests) p) p (h .due) .waiting ≤ 0 = omega arith in
+        let z : h .site .waiting ≡ 0 = eqb-true (h .site .waiting) 0 f in
+        let w : ruled (h .site) (requestIn (t .requests) p) p (h .due) .waiting ≤ 0 = omega (arith, fewer-ruled (h .site) (requestIn (t .requests) p) p (h .due)) in
         rw (e, f, walk-ends k (t .count) (t .requests) (ruled (h .site) (requestIn (t .requests) p) p (h .due)) 0 w) (simp zero-add))
         (λ f. rw (e, f, e, getD-set-same (t .sites) k (h .site) noSite l) (simp set-set))))
 
     -- where it is all the same what the site answered
     pub settled-is
         : (o : Out) → walking.answerOf o ≡ walking.answerOf (ruledOut k (t .count) (t .requests) p h)
-        → finished k p (settledAlone h p q .due) (withSite k (settledAlone h p q .site) t) (results first second (settledAlone h p q .accepted) (settledAlone h p q .rejected))
+        → finished k p (settledAlone h p q .due) (withSite k (settledAlone h p q .site) t) (results first second (settledAlone h p q .answer .accepted) (settledAlone h p q .answer .rejected))
         ≡ steppedAs (doneAt k first second o t)
     settled-is o e = settled-finish ∙ same-done (ruledOut k (t .count) (t .requests) p h) _ refl ∙ sym (same-done o _ e)
 
@@ -106,7 +112,7 @@ pub entered-is
     : (t : Table) (k p : ℕ) (q : Request) (s : Site) (first : ℤ) {heads : List Head} → k < length (t .sites) → p < 16 → length (t .requests) ≡ 16
     → heads ≡ set (headsOf (t .requests)) p (headOf q)
     → finished k p (settledAlone (takenUpAlone (t .count) k heads s p q) p q .due) (withSite k (settledAlone (takenUpAlone (t .count) k heads s p q) p q .site) (withRequest p q t))
-    (results first p (settledAlone (takenUpAlone (t .count) k heads s p q) p q .accepted) (settledAlone (takenUpAlone (t .count) k heads s p q) p q .rejected))
+    (results first p (settledAlone (takenUpAlone (t .count) k heads s p q) p q .answer .accepted) (settledAlone (takenUpAlone (t .count) k heads s p q) p q .answer .rejected))
     ≡ steppedAs (doneAt k first p (takenUp k (t .count) (set (t .requests) p q) (getD (set (t .sites) k s) k noSite) p) (withRequest p q (withSite k s t)))
 entered-is t k p q s first {heads} l low long hh =
     settled-is (withRequest p q t) k p first p l there (takenUpAlone (t .count) k heads s p q) (takenUp k (t .count) (set (t .requests) p q) s p)

@@ -4,10 +4,12 @@ use mathlib.Core.Bool.{Bool, false, true}
 use mathlib.Core.List.{List}
 use mathlib.Core.Path.{_≡_, refl, sym, ap, _∙_}
 use native.Mathlib.Omega.{arith}
+use lib.IntN.{ℤ}
 use lib.ListN.{length, take, drop}
 use Rattle.kit.specs.Lists.{put, placed}
 use Rattle.lines.specs.Lines.{fitted}
-use Rattle.record.specs.Records.{recordOf}
+use Rattle.record.specs.Records.{recordOf, briefOf}
+use Rattle.record.specs.declared.Brief.{Brief}
 use Rattle.record.specs.declared.Record.{Record}
 use Rattle.table.specs.declared.data.Table.{Table}
 use Rattle.vote.specs.Data.{headsOf}
@@ -19,7 +21,8 @@ use Rattle.steps.specs.declared.answer.Stepped.{Stepped}
 use Rattle.steps.specs.declared.answering.Answered.{Answered}
 use Rattle.steps.proofs.Advancing.{Kept}
 use Rattle.steps.proofs.Arms.{Held, PutBack}
-use Rattle.steps.proofs.Running.{Going, Facing, facing-start, facing-wrote, going-full, going-cut, going-read, answered-kept}
+use Rattle.steps.proofs.Briefs.{recordFrom, answered-brief}
+use Rattle.steps.proofs.Running.{Going, Facing, facing-start, facing-same, facing-wrote, going-full, going-cut, going-read, answered-kept}
 
 -- the record r answered: the answer, the table after it, and its summaries
 pub record Reply (t : Table) (r : Record) (u : Table) (heads : List Head) (used : List Bool) (w : Answer) : Type 0 where
@@ -86,12 +89,26 @@ module _ {t₀ : Table} {r₀ : Record} {nth₀ : ℕ} {s out₀ : List ℕ} {en
     pub turned-full : isFull (room - to) nth ≡ true → {z : Answered} → z ≡ stoppedAt w at to nth t → Promised z
     turned-full e h = let c = going-full (g .going) e in rw h (c .0, (c .1 .0, (c .1 .1, g .alone)))
 
-    pub turned-cut : {r : Record} → r ≡ recordOf (take (end - at) (drop at s)) → r .next ≡ 0 → {z : Answered} → z ≡ stoppedAt w at to nth t → Promised z
-    turned-cut {r} hr e h = let c = going-cut (g .going) (sym (ap (λ (x : Record). x .next) hr) ∙ e) in rw h (c .0, (c .1 .0, (c .1 .1, g .alone)))
+    -- the record that the bytes from here on start with
+    abbrev Next : Record
+    Next = recordOf (take (end - at) (drop at s))
 
-    pub turned-read
-        : {r : Record} → isFull (room - to) nth ≡ false → r ≡ recordOf (take (end - at) (drop at s)) → (r .next ≡ 0 → ⊥)
-        → Turning t₀ r₀ nth₀ s out₀ end room t heads used r out (at + r .next) to nth
-    turned-read {r} e hr n =
-        let f = going-read (g .going) r e hr n in
-        record { facing = f; held = g .held; first = λ z. absurd (n (omega (arith, f .inside))) }
+    module _ {r : Brief} (hr : r ≡ briefOf Next) where
+      size : r .next ≡ Next .next
+      unfolding briefOf
+      size = ap (λ (x : Brief). x .next) hr
+
+      pub turned-cut : r .next ≡ 0 → {z : Answered} → z ≡ stoppedAt w at to nth t → Promised z
+      turned-cut e h = let c = going-cut (g .going) (sym size ∙ e) in rw h (c .0, (c .1 .0, (c .1 .1, g .alone)))
+
+      pub turned-read
+          : {stamps : List ℕ} {values : List ℤ} → isFull (room - to) nth ≡ false → (r .next ≡ 0 → ⊥)
+          → (r .code ≡ 1 → (stamps ≡ Next .step .stamps) × (values ≡ Next .step .values))
+          → Turning t₀ r₀ nth₀ s out₀ end room t heads used (recordFrom r stamps values) out (at + r .next) to nth
+      turned-read e n arrays =
+          let f : Facing (Whole t₀ r₀ nth₀ s out₀ end room) s out₀ end room t Next out (at + r .next) to nth = rw size (going-read (g .going) Next e refl (λ z. n (size ∙ z))) in
+          record {
+            facing = facing-same (answered-brief t Next hr arrays) f;
+            held = g .held;
+            first = λ z. absurd (n (omega (arith, f .inside)));
+          }

@@ -25,8 +25,11 @@ use plans::retire::retire;
 use plans::sites::down;
 use plans::sites::read;
 use plans::sites::up;
+use record::Brief;
 use record::Record;
-use record::read_record;
+use record::read_brief;
+use record::read_stamps;
+use record::read_values;
 use table::data::Table;
 use vote::consider::is_open;
 use vote::data::Site;
@@ -106,7 +109,8 @@ fn stop(last: Answer, taken: usize, written: usize, next: u64, table: Table) -> 
 
 // Answers the first record, whose bytes the input starts with, and then record after record of the input, while one is whole and there is
 // room for its line. For each the pieces that its step is about are taken out of the table, planned on and put back; only a verdict at a site
-// whose queue is not empty after it looks at all requests. The heads of the requests and the used message places are kept beside the table.
+// where a request waits looks at all requests. The heads of the requests and the used message places are kept beside the table, and so are
+// the stamps and values of the last begin, which no other step looks at.
 pub(crate) fn answer_from(
     mut t: Table,
     first: Record,
@@ -128,7 +132,22 @@ pub(crate) fn answer_from(
     let messages = t.messages;
     let mut heads = heads_of(requests);
     let mut used = used_of(messages);
-    let mut r = first;
+    let step = first.step;
+    let mut stamps = step.stamps;
+    let mut values = step.values;
+    let mut r = Brief {
+        number: first.number,
+        next: first.next,
+        code: step.code,
+        site: step.site,
+        to: step.to,
+        item: step.item,
+        place: step.place,
+        clock: step.clock,
+        stamp: step.stamp,
+        base: step.base,
+        update: step.update,
+    };
     let mut at = r.next;
     let mut to: usize = 0;
     let mut next = nth;
@@ -136,18 +155,26 @@ pub(crate) fn answer_from(
         let number = r.number;
         let mut answer = refuse(number);
         if number == 0 {
-            let a = r.step;
-            let code = a.code;
-            let j = message_for(code, used, a.place);
+            let code = r.code;
+            let j = message_for(code, used, r.place);
             let x = clamp(kit::index(j), 63);
             let told = t.messages[x];
-            let k = site_for(code, a.site, told.to);
-            let p = place_for(code, heads, a.stamp, told.request);
+            let k = site_for(code, r.site, told.to);
+            let p = place_for(code, heads, r.stamp, told.request);
             let i = clamp(kit::index(p), 15);
             let mut due = Verdict::Open;
             match code {
                 1 => {
-                    let c = begin(t.count, heads, t.sites[k], p, t.requests[i], a);
+                    let c = begin(
+                        t.count,
+                        heads,
+                        t.sites[k],
+                        p,
+                        t.requests[i],
+                        r,
+                        &stamps,
+                        &values,
+                    );
                     let q = c.request;
                     let s = c.site;
                     t.requests[i] = q;
@@ -157,7 +184,7 @@ pub(crate) fn answer_from(
                     due = c.due;
                 }
                 2 => {
-                    let c = tell(t.count, a.site, a.to, t.sites[k], p, j, told);
+                    let c = tell(t.count, r.site, r.to, t.sites[k], p, j, told);
                     let m = c.message;
                     t.messages[x] = m;
                     used[x] = m.used;
@@ -178,12 +205,12 @@ pub(crate) fn answer_from(
                     answer = c.answer;
                 }
                 5 => {
-                    let c = down(t.count, a.site, t.sites[k].up);
+                    let c = down(t.count, r.site, t.sites[k].up);
                     t.sites[k].up = c.up;
                     answer = c.answer;
                 }
                 6 => {
-                    let c = up(t.count, a.site, t.sites[k].up);
+                    let c = up(t.count, r.site, t.sites[k].up);
                     t.sites[k].up = c.up;
                     answer = c.answer;
                 }
@@ -201,7 +228,7 @@ pub(crate) fn answer_from(
                     }
                 }
                 8 => {
-                    answer = read(t.count, a.site, t.sites[k], a.item);
+                    answer = read(t.count, r.site, t.sites[k], r.item);
                 }
                 0 | 9..=255 => {
                     answer = refuse(2);
@@ -221,10 +248,14 @@ pub(crate) fn answer_from(
         if is_full(room - to, next) {
             return stop(answer, at, to, next, t);
         }
-        r = read_record(&input[at..end]);
+        r = read_brief(&input[at..end]);
         let size = r.next;
         if size == 0 {
             return stop(answer, at, to, next, t);
+        }
+        if r.code == 1 {
+            stamps = read_stamps(&input[at..end]);
+            values = read_values(&input[at..end]);
         }
         at += size;
     }

@@ -91,12 +91,10 @@ pub fn is_holding_nothing(s: Site, p: u8) -> bool
     if !is_blank_vote(vote_at(votes, p)) {
         return false;
     }
-    let oks = s.oks;
-    if !is_none_known(oks, p) {
+    if !is_none_known(&s.oks, p) {
         return false;
     }
-    let others = s.others;
-    is_none_known(others, p)
+    is_none_known(&s.others, p)
 }
 
 // Whether a site holds nothing of any of the 16 places.

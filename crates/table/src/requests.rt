@@ -67,8 +67,8 @@ fn are_all_formed(n: u8, based: &[u64; 24]) -> bool
     true
 }
 
-// Whether each base item's stamp is well formed: all are, where those of the other items are 0.
-fn are_based_right(n: u8, base: u32, based: &[u64; 24]) -> bool
+// Check 6: each base item's stamp is well formed. All are, where those of the other items are 0.
+pub fn are_base_stamps_allowed(n: u8, base: u32, based: &[u64; 24]) -> bool
     ensures { λ r. ⌜ r ≡ baseStampsAllowed n base (now (based .entry)) ⌝ }
 {
     if are_all_formed(n, based) {
@@ -80,13 +80,6 @@ fn are_based_right(n: u8, base: u32, based: &[u64; 24]) -> bool
         }
     }
     true
-}
-
-// Check 6: each base item's stamp is well formed.
-pub fn are_base_stamps_allowed(n: u8, base: u32, based: [u64; 24]) -> bool
-    ensures { λ r. ⌜ r ≡ baseStampsAllowed n base based ⌝ }
-{
-    are_based_right(n, base, &based)
 }
 
 fn is_value_allowed(taken: bool, value: i32) -> bool
@@ -109,8 +102,8 @@ fn are_all_in_range(values: &[i32; 24]) -> bool
     good
 }
 
-// Whether each update item's value is in range: all are, where those of the other items are 0.
-fn are_valued_right(update: u32, values: &[i32; 24]) -> bool
+// Check 7: each update item's value is in range. All are, where those of the other items are 0.
+pub fn are_values_allowed(update: u32, values: &[i32; 24]) -> bool
     ensures { λ r. ⌜ r ≡ valuesAllowed update (now (values .entry)) ⌝ }
 {
     if are_all_in_range(values) {
@@ -124,13 +117,6 @@ fn are_valued_right(update: u32, values: &[i32; 24]) -> bool
     true
 }
 
-// Check 7: each update item's value is in range.
-pub fn are_values_allowed(update: u32, values: [i32; 24]) -> bool
-    ensures { λ r. ⌜ r ≡ valuesAllowed update values ⌝ }
-{
-    are_valued_right(update, &values)
-}
-
 // Whether a request passes checks 5, 6 and 7.
 pub fn is_request_allowed(n: u8, q: Request) -> bool
     ensures { λ r. ⌜ r ≡ requestAllowed n q ⌝ }
@@ -138,8 +124,8 @@ pub fn is_request_allowed(n: u8, q: Request) -> bool
     if !are_sets_allowed(q.base, q.update) {
         return false;
     }
-    if !are_based_right(n, q.base, &q.stamps) {
+    if !are_base_stamps_allowed(n, q.base, &q.stamps) {
         return false;
     }
-    are_valued_right(q.update, &q.values)
+    are_values_allowed(q.update, &q.values)
 }

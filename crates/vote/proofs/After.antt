@@ -52,13 +52,7 @@ tidy-of q o = record { blank = λ k h. rw (q .queue) (o .blank k (rw (q .waiting
 -- deferring joins the queue
 pub deferred-queue : (s : Site) (p : ℕ) → QueueOf (joinsQueue s p) (deferred s p)
 unfolding deferred marked joinsQueue
-deferred-queue s p = go (ltb (s .waiting) 16)
-  where
-    go : (b : Bool)
-        → QueueOf (cond b (withQueue (set (s .queue) (s .waiting) p) (s .waiting + 1) s) s)
-        (cond b (withQueue (set (s .queue) (s .waiting) p) (s .waiting + 1) (marked s p mark.Deferred)) (marked s p mark.Deferred))
-    go true = record { queue = refl; waiting = refl }
-    go false = record { queue = refl; waiting = refl }
+deferred-queue s p = record { queue = refl; waiting = refl }
 
 -- a mark changes no queue
 leaves-marked : (s : Site) (p : ℕ) (m : Mark) (i : ℕ) → QueueOf (leavesQueue s i) (leavesQueue (marked s p m) i)

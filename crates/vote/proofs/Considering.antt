@@ -1,18 +1,20 @@
 -- What held where a site made this or that of a request.
-use mathlib.Core.Path.{_≡_, refl}
+use mathlib.Core.Path.{_≡_, refl, _∙_}
 use mathlib.Core.Bool.{Bool, true, false, _&&_, cond}
 use mathlib.Core.List.{List}
-use Prim.Native.Nat.{ℕ, _<_, _≤_}
+use Prim.Native.Nat.{ℕ, _^_, _<_, _≤_}
 use native.Mathlib.Nat.{le-antisymm}
 use borrow.Author.Tests.{ltb-true, ltb-false, lt-ltb}
 use lib.Dec.{ltb}
+use lib.IntN.{ℤ}
 use lib.ListN.{getD}
 use Rattle.kit.specs.Range.{any}
-use Rattle.kit.proofs.Bools.{and-left, and-right, both-true}
-use Rattle.kit.proofs.Ranges.{any-hit, any-at, any-one}
+use Rattle.kit.proofs.Bools.{clash, by-test, and-left, and-right, both-true}
+use Rattle.kit.proofs.Ranges.{any-hit, any-at, any-one, any-same}
 use Rattle.sets.specs.Sets.{member}
-use Rattle.vote.specs.Consider.{newerCopy, olderCopy, inWay, inWayAbove, blocked, blockedAbove, considered}
-use Rattle.vote.specs.Data.{isPending, voteAt, headAt, headOf}
+use Rattle.sets.proofs.Laws.{setOf-lt, member-setOf}
+use Rattle.vote.specs.Consider.{newerCopy, olderCopy, pendingSet, inWay, inWayAbove, blocked, blockedAbove, considered}
+use Rattle.vote.specs.Data.{isPending, voteAt, headAt, headOf, requestOf}
 use Rattle.vote.specs.Requests.{conflicts, outranks}
 use Rattle.vote.specs.declared.consider.Outcome.{Outcome}
 use Rattle.vote.specs.declared.consider.Outcome.the-variants as outcome
@@ -150,6 +152,56 @@ pub blocked-above-of : (heads : List Head) (votes : List Vote) (q : Head) → In
 unfolding blockedAbove inWayAbove inWay
 blocked-above-of heads votes q r =
     any-hit 16 (r .place) (λ j. inWayAbove (voteAt votes j) (headAt heads j) q) (r .below) (both-true (both-true (r .pending) (r .conflict)) (r .higher))
+
+-- who is in the way above is in the way
+pub above-blocked : (heads : List Head) (votes : List Vote) (q : Head) → blockedAbove heads votes q ≡ true → blocked heads votes q ≡ true
+above-blocked heads votes q e =
+    let r = blocked-above-by heads votes q e in
+    blocked-of heads votes q (record { place = r .place; below = r .below; pending = r .pending; conflict = r .conflict })
+
+pub not-blocked-not-above : (heads : List Head) (votes : List Vote) (q : Head) → blocked heads votes q ≡ false → blockedAbove heads votes q ≡ false
+not-blocked-not-above heads votes q e = by-test (blockedAbove heads votes q) (λ t. clash (above-blocked heads votes q t) e) (λ f. f)
+
+-- ---- the pending requests as a set of places
+
+pub pending-lt : {s : ℕ} (votes : List Vote) → s ≡ pendingSet votes → s < 2 ^ 16
+unfolding pendingSet
+pending-lt votes e = rw e (setOf-lt 16 (λ j. isPending (voteAt votes j)))
+
+pending-at : (votes : List Vote) (j : ℕ) → j < 16 → member (pendingSet votes) j ≡ isPending (voteAt votes j)
+unfolding pendingSet
+pending-at votes j h = member-setOf 16 (λ k. isPending (voteAt votes k)) j h
+
+module _ (heads : List Head) (votes : List Vote) (q : Head) {s : ℕ} {b : Bool} (e : s ≡ pendingSet votes) where
+  -- from it to the answers
+  pub blocked-from : b ≡ any 16 (λ j. member s j && conflicts q (headAt heads j)) → b ≡ blocked heads votes q
+  unfolding blocked inWay
+  blocked-from f =
+      f
+      ∙ any-same (λ j. member s j && conflicts q (headAt heads j)) (λ j. isPending (voteAt votes j) && conflicts q (headAt heads j)) 16
+      (λ j h. rw (e, pending-at votes j h))
+
+  pub above-from
+      : b ≡ any 16 (λ j. member s j && (conflicts q (headAt heads j) && outranks (headAt heads j) q)) → b ≡ blockedAbove heads votes q
+  unfolding blockedAbove inWayAbove inWay
+  above-from f =
+      f
+      ∙ any-same (λ j. member s j && (conflicts q (headAt heads j) && outranks (headAt heads j) q))
+      (λ j. (isPending (voteAt votes j) && conflicts q (headAt heads j)) && outranks (headAt heads j) q) 16
+      (λ j h. rw (e, pending-at votes j h) (grouped (isPending (voteAt votes j)) (conflicts q (headAt heads j)) (outranks (headAt heads j) q)))
+    where
+      grouped : (x y z : Bool) → (x && (y && z)) ≡ ((x && y) && z)
+      grouped true y z = refl
+      grouped false y z = refl
+
+-- ---- a request taken apart
+
+-- it is considered by its head and its base stamps alone
+pub considered-parts
+    : (heads : List Head) (votes : List Vote) (held : List ℕ) (q : Request) (vs : List ℤ)
+    → considered heads votes held (requestOf (headOf q) (q .stamps) vs) ≡ considered heads votes held q
+unfolding considered
+considered-parts heads votes held q vs = refl
 
 -- ---- from the outcome to what held
 

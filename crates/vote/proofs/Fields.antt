@@ -94,10 +94,7 @@ module _ (s : Site) where
 
   pub joins-keeps : (p : ℕ) → Kept stays may-change stays stays s (joinsQueue s p)
   unfolding joinsQueue
-  joins-keeps p =
-      of-cond (Kept stays may-change stays stays s) (ltb (s .waiting) 16)
-      (λ y. record { up = refl; last = refl; stamps = refl; values = refl; queue = tt; waiting = tt; votes = refl; oks = refl; others = refl })
-      (λ n. kept-same stays may-change stays stays s)
+  joins-keeps p = record { up = refl; last = refl; stamps = refl; values = refl; queue = tt; waiting = tt; votes = refl; oks = refl; others = refl }
 
   pub leaves-keeps : (i : ℕ) → Kept stays may-change stays stays s (leavesQueue s i)
   unfolding leavesQueue

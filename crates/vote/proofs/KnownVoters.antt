@@ -8,10 +8,10 @@ use native.Mathlib.Omega.{arith}
 use borrow.Author.Tests.{lt-ltb, le-ltb, ltb-true, eq-eqb, ne-eqb, not-true}
 use lib.Dec.{eqb, ltb}
 use lib.ListN.{length, getD, set, replicate, length-set, getD-replicate, List·getD-eq-default}
-use lib.Seq.{ext-getD, getD-set-same, getD-set-other, set-getD, set-out}
+use lib.Seq.{ext-getD, getD-set-same, getD-set-other, set-getD}
 use Rattle.kit.specs.Lists.{listed}
 use Rattle.kit.specs.Range.{any, all, one, number, implies}
-use Rattle.kit.proofs.Bools.{clash, and-left, and-right, implied, implying, same-test, by-eq, by-lt}
+use Rattle.kit.proofs.Bools.{clash, and-left, and-right, implied, implying, same-test, by-eq, by-lt, of-cond}
 use Rattle.kit.proofs.Listings.{Filled, filled-put, length-listed, listed-at, listed-same}
 use Rattle.kit.proofs.Ranges.{any-suc, any-at, none-of, all-at, all-of, number-le, number-same, number-grows, number-none}
 use Rattle.vote.specs.Voters.{knows, votersOf, onlyVoter, joinUpTo, joinVoters, hasVoter, votersFor, votersKnown, noKnown, areAmong, clearUpTo, clearVoters}
@@ -73,20 +73,16 @@ pub joined-more
 unfolding joinUpTo
 joined-more known more u e f g = rw (g, f, e, add-one u)
 
-pub joined-over : (known : List Bool) (p : ℕ) (more : List Bool) (u : ℕ) {w : List Bool} → w ≡ joinUpTo u known p more → u ≤ 7 → 7 ≤ u → w ≡ joinVoters known p more
+pub joined-over
+    : (known : List Bool) {at p : ℕ} (more : List Bool) (u : ℕ) {w : List Bool} → at ≡ p → w ≡ joinUpTo u known p more → at ≤ 15 → u ≤ 7 → 7 ≤ u
+    → w ≡ joinVoters known p more
 unfolding joinVoters
-joined-over known p more u f l h = let e : u ≡ 7 = omega arith in rw (← e) f
-
-joined-out-up-to : (n : ℕ) (known : List Bool) (p : ℕ) (more : List Bool) → length known ≤ 7 * p → known ≡ joinUpTo n known p more
-unfolding joinUpTo
-joined-out-up-to zero known p more h = refl
-joined-out-up-to (suc n) known p more h =
-    rw (← joined-out-up-to n known p more h) (sym (set-out known (7 * p + n) _ (omega arith)))
+joined-over known {at} {p} more u e f i l h = let z : u ≡ 7 = omega arith in rw (lt-ltb p 16 (omega arith), ← z) f
 
 -- a place above 15 has no voters
-pub joined-out : (known : List Bool) {at p : ℕ} (more : List Bool) → length known ≡ 112 → at ≡ p → 15 < at → known ≡ joinVoters known p more
+pub joined-out : (known : List Bool) {at p : ℕ} (more : List Bool) → at ≡ p → 15 < at → known ≡ joinVoters known p more
 unfolding joinVoters
-joined-out known {at} {p} more len e h = joined-out-up-to 7 known p more (omega arith)
+joined-out known {at} {p} more e h = rw (le-ltb p 16 (omega arith))
 
 -- ---- what all others see
 
@@ -100,7 +96,7 @@ length-joined-up-to (suc n) known p more =
 -- joining keeps the length
 pub length-joinVoters : (known : List Bool) (p : ℕ) (more : List Bool) → length (joinVoters known p more) ≡ length known
 unfolding joinVoters
-length-joinVoters known p more = length-joined-up-to 7 known p more
+length-joinVoters known p more = of-cond (λ (l : List Bool). length l ≡ length known) (ltb p 16) (λ y. length-joined-up-to 7 known p more) (λ n. refl)
 
 module _ (known : List Bool) (p : ℕ) (more : List Bool) where
   -- a test that is none of the first n of place p
@@ -127,7 +123,7 @@ module _ (known : List Bool) (p : ℕ) (more : List Bool) where
       → knows (joinVoters known p more) q u ≡ (knows known q u || (eqb p q && getD more u false))
   unfolding knows joinVoters
   knows-joined q u len hp hq hu =
-      rw (lt-ltb q 16 hq, lt-ltb u 7 hu)
+      rw (lt-ltb p 16 hp, lt-ltb q 16 hq, lt-ltb u 7 hu)
       (by-eq p q (λ e. rw (← e, eq-eqb p p refl) (joined-here 7 u hu (omega arith)))
       (λ ne. rw (ne-eqb p q ne, or-false) (joined-there 7 (7 * q + u) (λ v k e. ne (omega arith)))))
 
@@ -160,7 +156,7 @@ module _ (known : List Bool) (p : ℕ) (more : List Bool) where
   -- a repeated voter counts once: joining voters who are known already changes nothing
   pub joined-again : p < 16 → ((u : ℕ) → u < 7 → getD more u false ≡ true → knows known p u ≡ true) → joinVoters known p more ≡ known
   unfolding joinVoters
-  joined-again hp all = repeated-up-to 7 (omega arith) hp all
+  joined-again hp all = rw (lt-ltb p 16 hp) (repeated-up-to 7 (omega arith) hp all)
 
 -- a voter who is known is one of seven, of one of 16 places
 pub known-in : (known : List Bool) (p u : ℕ) → knows known p u ≡ true → (p < 16) × (u < 7)
@@ -350,6 +346,6 @@ module _ (known : List Bool) (p : ℕ) where
       : (q u : ℕ) → length known ≡ 112 → p < 16 → q < 16 → u < 7 → knows (clearVoters known p) q u ≡ (not (eqb p q) && knows known q u)
   unfolding knows clearVoters
   knows-cleared q u len hp hq hu =
-      rw (lt-ltb q 16 hq, lt-ltb u 7 hu)
+      rw (lt-ltb p 16 hp, lt-ltb q 16 hq, lt-ltb u 7 hu)
       (by-eq p q (λ e. rw (eq-eqb p q e, ← e) (cleared-here 7 u hu (omega arith)))
       (λ ne. rw (ne-eqb p q ne) (cleared-there 7 (7 * q + u) (λ v k e. ne (omega arith)))))

@@ -7,7 +7,7 @@ use lib.ListN.{length, set, List·getD-eq-default}
 use lib.Seq.{set-out}
 use Rattle.vote.specs.Data.{noVote, voteAt, withVotes}
 use Rattle.vote.specs.Verdicts.{noted, withVerdict}
-use Rattle.vote.specs.Voting.{marked, withMark}
+use Rattle.vote.specs.Voting.{markPut, withMark}
 use Rattle.vote.specs.declared.data.Mark.{Mark}
 use Rattle.vote.specs.declared.data.Site.{Site}
 use Rattle.vote.specs.declared.data.Verdict.{Verdict}
@@ -19,15 +19,13 @@ vote-out votes l e h = sym (List·getD-eq-default votes noVote (omega arith))
 pub vote-in : (votes : List Vote) {at p : ℕ} → at ≡ p → voteAt votes at ≡ voteAt votes p
 vote-in votes e = rw e
 
+pub marks-out : (votes : List Vote) {at p : ℕ} (m : Mark) → length votes ≡ 16 → at ≡ p → 15 < at → votes ≡ markPut votes p m
+marks-out votes {at} {p} m l e h = sym (set-out votes p (withMark m (voteAt votes p)) (omega arith))
+
+pub marks-in : (votes : List Vote) {at p : ℕ} (m : Mark) → at ≡ p → set votes at (withMark m (voteAt votes at)) ≡ markPut votes p m
+marks-in votes m e = rw e
+
 module _ (s : Site) {at p : ℕ} where
-  pub marks-out : (m : Mark) → length (s .votes) ≡ 16 → at ≡ p → 15 < at → s ≡ marked s p m
-  unfolding marked
-  marks-out m l e h = rw (set-out (s .votes) p (withMark m (voteAt (s .votes) p)) (omega arith))
-
-  pub marks-in : (m : Mark) → at ≡ p → withVotes (set (s .votes) at (withMark m (voteAt (s .votes) at))) s ≡ marked s p m
-  unfolding marked
-  marks-in m e = rw e
-
   pub notes-out : (d : Verdict) → length (s .votes) ≡ 16 → at ≡ p → 16 ≤ at → s ≡ noted s p d
   unfolding noted
   notes-out d l e h = rw (set-out (s .votes) p (withVerdict d (voteAt (s .votes) p)) (omega arith))

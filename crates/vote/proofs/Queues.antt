@@ -13,7 +13,7 @@ use Rattle.kit.proofs.Bools.{by-test, by-eq, by-lt}
 use Rattle.kit.proofs.Queues.{skip, skip-after, skip-in, skip-once, skip-back, without-at, length-without, without-none}
 use Rattle.kit.proofs.Ranges.{any-hit, none-of, first-le, first-hit, first-none}
 use Rattle.vote.specs.Data.{withQueue}
-use Rattle.vote.specs.Queue.{queuedAt, joinsQueue, leavesQueue, placeInQueue}
+use Rattle.vote.specs.Queue.{queuedAt, queueJoined, countJoined, joinsQueue, leavesQueue, placeInQueue}
 use Rattle.vote.specs.declared.data.Site.{Site}
 
 -- ---- as the code asks and makes it; `at` is a number of the site as an index
@@ -21,13 +21,14 @@ use Rattle.vote.specs.declared.data.Site.{Site}
 pub queued-out : (queue : List ℕ) (i : ℕ) → length queue ≡ 16 → 15 < i → 0 ≡ queuedAt queue i
 queued-out queue i e h = sym (List·getD-eq-default queue 0 (omega arith))
 
-pub joins-full : (s : Site) (p : ℕ) {at : ℕ} → at ≡ s .waiting → 15 < at → s ≡ joinsQueue s p
-unfolding joinsQueue
-joins-full s p e h = rw (le-ltb (s .waiting) 16 (omega arith))
+module _ (queue : List ℕ) {n at : ℕ} (p : ℕ) (e : at ≡ n) where
+  pub joins-full : 15 < at → (n ≡ countJoined n) × (queue ≡ queueJoined queue n p)
+  unfolding countJoined queueJoined
+  joins-full h = rw (le-ltb n 16 (omega arith)) (refl, refl)
 
-pub joins-end : (s : Site) (p : ℕ) {at : ℕ} → at ≡ s .waiting → at ≤ 15 → withQueue (set (s .queue) at p) (s .waiting + 1) s ≡ joinsQueue s p
-unfolding joinsQueue
-joins-end s p e h = rw (lt-ltb (s .waiting) 16 (omega arith), e)
+  pub joins-end : at ≤ 15 → (n + 1 ≡ countJoined n) × (set queue at p ≡ queueJoined queue n p)
+  unfolding countJoined queueJoined
+  joins-end h = rw (lt-ltb n 16 (omega arith), e) (refl, refl)
 
 pub leaves-empty : (s : Site) (i : ℕ) → s .waiting ≡ 0 → s ≡ leavesQueue s i
 unfolding leavesQueue
@@ -42,12 +43,17 @@ leaves-some s i ne e = rw (ne-eqb (s .waiting) 0 ne, e)
 module _ (s : Site) (p : ℕ) where
   -- with room left, the queue holds p behind the others
   pub queue-joined : s .waiting < 16 → joinsQueue s p .queue ≡ set (s .queue) (s .waiting) p
-  unfolding joinsQueue
+  unfolding joinsQueue queueJoined
   queue-joined h = rw (lt-ltb (s .waiting) 16 h)
 
   pub waiting-joined : s .waiting < 16 → joinsQueue s p .waiting ≡ s .waiting + 1
-  unfolding joinsQueue
+  unfolding joinsQueue countJoined
   waiting-joined h = rw (lt-ltb (s .waiting) 16 h)
+
+  -- a full queue stays
+  queue-full : 16 ≤ s .waiting → joinsQueue s p .queue ≡ s .queue
+  unfolding joinsQueue queueJoined
+  queue-full h = rw (le-ltb (s .waiting) 16 h)
 
   -- p is the last
   pub joined-last : s .waiting < 16 → length (s .queue) ≡ 16 → queuedAt (joinsQueue s p .queue) (s .waiting) ≡ p
@@ -57,12 +63,12 @@ module _ (s : Site) (p : ℕ) where
   pub joined-other : (i : ℕ) → (i ≡ s .waiting → ⊥) → queuedAt (joinsQueue s p .queue) i ≡ queuedAt (s .queue) i
   joined-other i ne =
       by-lt (s .waiting) 16 (λ h. rw (queue-joined h) (getD-set-other (s .queue) (s .waiting) i p 0 ne))
-      (λ h. ap (λ (t : Site). queuedAt (t .queue) i) (sym (joins-full s p refl (omega arith))))
+      (λ h. ap (λ (l : List ℕ). queuedAt l i) (queue-full h))
 
   pub length-joined : length (joinsQueue s p .queue) ≡ length (s .queue)
   length-joined =
       by-lt (s .waiting) 16 (λ h. rw (queue-joined h) (length-set (s .queue) (s .waiting) p))
-      (λ h. ap (λ (t : Site). length (t .queue)) (sym (joins-full s p refl (omega arith))))
+      (λ h. ap length (queue-full h))
 
 -- ---- place i out
 

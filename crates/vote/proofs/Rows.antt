@@ -6,10 +6,11 @@ use Prim.Native.Nat.{ℕ, zero, suc, _+_, _*_, _≤_, _<_}
 use native.Mathlib.Numerals.{add-one}
 use native.Mathlib.Omega.{arith}
 use borrow.Author.Tests.{lt-ltb, le-ltb, not-true}
+use lib.Dec.{ltb}
 use lib.ListN.{length, getD, set, length-set, getD-replicate}
 use lib.Seq.{set-out}
 use Rattle.kit.specs.Range.{number, implies}
-use Rattle.kit.proofs.Bools.{by-lt}
+use Rattle.kit.proofs.Bools.{by-lt, of-cond}
 use Rattle.kit.proofs.Listings.{listed-at}
 use Rattle.kit.proofs.Passing.{length-passing}
 use Rattle.kit.proofs.Ranges.{any-at, none-of}
@@ -79,18 +80,13 @@ pub cleared-more
 unfolding clearUpTo
 cleared-more known u e f = rw (f, e, add-one u)
 
-pub cleared-over : (known : List Bool) (p : ℕ) (u : ℕ) {w : List Bool} → w ≡ clearUpTo u known p → u ≤ 7 → 7 ≤ u → w ≡ clearVoters known p
+pub cleared-over : (known : List Bool) {at p : ℕ} (u : ℕ) {w : List Bool} → at ≡ p → w ≡ clearUpTo u known p → at ≤ 15 → u ≤ 7 → 7 ≤ u → w ≡ clearVoters known p
 unfolding clearVoters
-cleared-over known p u f l h = let e : u ≡ 7 = omega arith in rw (← e) f
+cleared-over known {at} {p} u e f i l h = let z : u ≡ 7 = omega arith in rw (lt-ltb p 16 (omega arith), ← z) f
 
-cleared-out-up-to : (n : ℕ) (known : List Bool) (p : ℕ) → length known ≤ 7 * p → known ≡ clearUpTo n known p
-unfolding clearUpTo
-cleared-out-up-to zero known p h = refl
-cleared-out-up-to (suc n) known p h = rw (← cleared-out-up-to n known p h) (sym (set-out known (7 * p + n) false (omega arith)))
-
-pub cleared-out : (known : List Bool) {at p : ℕ} → length known ≡ 112 → at ≡ p → 15 < at → known ≡ clearVoters known p
+pub cleared-out : (known : List Bool) {at p : ℕ} → at ≡ p → 15 < at → known ≡ clearVoters known p
 unfolding clearVoters
-cleared-out known {at} {p} len e h = cleared-out-up-to 7 known p (omega arith)
+cleared-out known {at} {p} e h = rw (le-ltb p 16 (omega arith))
 
 pub length-clearUpTo : (n : ℕ) (known : List Bool) (p : ℕ) → length (clearUpTo n known p) ≡ length known
 unfolding clearUpTo
@@ -99,4 +95,4 @@ length-clearUpTo (suc n) known p = length-set (clearUpTo n known p) (7 * p + n) 
 
 pub length-clearVoters : (known : List Bool) (p : ℕ) → length (clearVoters known p) ≡ length known
 unfolding clearVoters
-length-clearVoters known p = length-clearUpTo 7 known p
+length-clearVoters known p = of-cond (λ (l : List Bool). length l ≡ length known) (ltb p 16) (λ y. length-clearUpTo 7 known p) (λ n. refl)

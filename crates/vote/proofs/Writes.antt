@@ -12,10 +12,12 @@ use lib.ListN.{length, getD, set}
 use Rattle.kit.proofs.Bools.{and-left, and-right, both-true, by-lt, of-cond}
 use Rattle.kit.proofs.Changes.{length-changed, changed-at, changed-none, changed-rest, changed-more, changed-keep}
 use Rattle.sets.specs.Sets.{member}
-use Rattle.vote.specs.Data.{withCopies}
-use Rattle.vote.specs.Verdicts.{writesItem, newStamp, newValue, writtenUpTo, writtenSite}
+use Rattle.vote.specs.Data.{withCopies, headOf, requestOf}
+use Rattle.vote.specs.Verdicts.{writesItem, newStamp, newValue, writtenUpTo, writtenSite, decided, ruled}
 use Rattle.vote.specs.declared.data.Request.{Request}
 use Rattle.vote.specs.declared.data.Site.{Site}
+use Rattle.vote.specs.declared.data.Verdict.{Verdict}
+use Rattle.vote.specs.declared.data.Verdict.the-variants as verdict
 
 -- ---- the loop
 
@@ -110,3 +112,10 @@ module _ (s : Site) (q : Request) (i : ℕ) (h : i < 24) (l : length (s .stamps)
       rw (written-stamp s q i h l)
       (by-lt (getD (s .stamps) i 0) (q .stamp) (λ k. rw (writes-of (s .stamps) q i m k) (omega arith))
       (λ k. rw (writes-late (s .stamps) q i k) k))
+
+-- ruling looks at a request's head and at its new values alone
+pub ruled-by : (s : Site) (q : Request) (ts : List ℕ) (p : ℕ) (d : Verdict) → ruled s (requestOf (headOf q) ts (q .values)) p d ≡ ruled s q p d
+unfolding ruled decided writtenSite writtenUpTo writesItem
+ruled-by s q ts p verdict.Open = refl
+ruled-by s q ts p verdict.Accepted = refl
+ruled-by s q ts p verdict.Rejected = refl

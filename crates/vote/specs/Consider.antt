@@ -5,7 +5,7 @@ use mathlib.Core.List.{List}
 use lib.Dec.{ltb}
 use lib.ListN.{getD}
 use Rattle.kit.specs.Range.{any}
-use Rattle.sets.specs.Sets.{member}
+use Rattle.sets.specs.Sets.{member, setOf}
 use Rattle.vote.specs.Data.{isPending, voteAt, headAt, headOf}
 use Rattle.vote.specs.Requests.{conflicts, outranks}
 use Rattle.vote.specs.declared.consider.Outcome.{Outcome}
@@ -23,6 +23,10 @@ newerCopy base based held = any 24 (λ i. member base i && ltb (getD based i 0) 
 -- 2. "some base stamp is larger than the copy's"
 unfoldable pub olderCopy : ℕ → List ℕ → List ℕ → Bool
 olderCopy base based held = any 24 (λ i. member base i && ltb (getD held i 0) (getD based i 0))
+
+-- the places of the pending requests, as a set
+unfoldable pub pendingSet : List Vote → ℕ
+pendingSet votes = setOf 16 (λ j. isPending (voteAt votes j))
 
 -- a request o, voted v, is pending and q conflicts with it
 unfoldable pub inWay : Vote → Head → Head → Bool

@@ -93,7 +93,11 @@ requestIn rs p = cond (ltb p 16) (requestAt rs p) blankRequest
 abbrev pub headOf : Request → Head
 headOf q = record { stamp = q .stamp; base = q .base; update = q .update }
 
--- those of each of the 16 places
+-- a request with this head, base stamps and new values
+abbrev pub requestOf : Head → List ℕ → List ℤ → Request
+requestOf h ts vs = record { stamp = h .stamp; base = h .base; update = h .update; stamps = ts; values = vs }
+
+-- the heads of each of the 16 places
 unfoldable pub headsOf : List Request → List Head
 headsOf rs = listed 16 (λ j. headOf (requestAt rs j))
 

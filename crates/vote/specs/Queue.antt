@@ -13,9 +13,16 @@ use Rattle.vote.specs.declared.data.Site.{Site}
 abbrev pub queuedAt : List ℕ → ℕ → ℕ
 queuedAt queue i = getD queue i 0
 
--- "A deferred request joins the end of that site's queue." A full queue, which no sound table has then, takes no more.
+-- a queue of n with request place p at its end, and how many it has then; a full queue, which no sound table has then, takes no more
+unfoldable pub queueJoined : List ℕ → ℕ → ℕ → List ℕ
+queueJoined queue n p = cond (ltb n 16) (set queue n p) queue
+
+unfoldable pub countJoined : ℕ → ℕ
+countJoined n = cond (ltb n 16) (n + 1) n
+
+-- "A deferred request joins the end of that site's queue."
 unfoldable pub joinsQueue : Site → ℕ → Site
-joinsQueue s p = cond (ltb (s .waiting) 16) (withQueue (set (s .queue) (s .waiting) p) (s .waiting + 1) s) s
+joinsQueue s p = withQueue (queueJoined (s .queue) (s .waiting) p) (countJoined (s .waiting)) s
 
 -- the request at place i of the queue leaves it; those behind it move up
 unfoldable pub leavesQueue : Site → ℕ → Site

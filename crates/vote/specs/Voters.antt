@@ -1,6 +1,6 @@
 -- The voters that a site knows. They are kept as 112 tests, voter u of request place p at 7 × p + u; no other file sees through that.
 use Prim.Native.Nat.{ℕ, zero, suc, _+_, _*_, _-_}
-use mathlib.Core.Bool.{Bool, true, false, not, _&&_, _||_}
+use mathlib.Core.Bool.{Bool, true, false, not, _&&_, _||_, cond}
 use mathlib.Core.List.{List, _++_}
 use lib.Dec.{eqb, ltb}
 use lib.ListN.{length, getD, set, replicate}
@@ -26,9 +26,9 @@ joinUpTo zero known p more = known
 joinUpTo (suc n) known p more =
     set (joinUpTo n known p more) (7 * p + n) (getD (joinUpTo n known p more) (7 * p + n) false || getD more n false)
 
--- all seven joined
+-- all seven joined; a place above 15 has no voters
 unfoldable pub joinVoters : List Bool → ℕ → List Bool → List Bool
-joinVoters known p more = joinUpTo 7 known p more
+joinVoters known p more = cond (ltb p 16) (joinUpTo 7 known p more) known
 
 -- ---- the voters of one place, as a row of seven
 
@@ -77,7 +77,7 @@ clearUpTo (suc n) known p = set (clearUpTo n known p) (7 * p + n) false
 
 -- all seven forgotten
 unfoldable pub clearVoters : List Bool → ℕ → List Bool
-clearVoters known p = clearUpTo 7 known p
+clearVoters known p = cond (ltb p 16) (clearUpTo 7 known p) known
 
 -- ---- nothing known
 

@@ -1,6 +1,7 @@
 -- "A vote is never changed and counts at once among the voters the site knows. A deferred request joins the end of that site's queue."
 use Prim.Native.Nat.{ℕ}
 use mathlib.Core.Bool.{cond}
+use mathlib.Core.List.{List}
 use lib.ListN.{set}
 use Rattle.vote.specs.Consider.{markOf, defers}
 use Rattle.vote.specs.Data.{isOk, voteAt, withVotes, withKnown}
@@ -16,9 +17,13 @@ use Rattle.vote.specs.declared.data.Vote.{Vote}
 abbrev pub withMark : Mark → Vote → Vote
 withMark m v = record { mark = m; verdict = v .verdict }
 
--- the site with the mark m on the request at place p
+-- what a site has said, with the mark m on the request at place p
+abbrev pub markPut : List Vote → ℕ → Mark → List Vote
+markPut votes p m = set votes p (withMark m (voteAt votes p))
+
+-- the site with that
 unfoldable pub marked : Site → ℕ → Mark → Site
-marked s p m = withVotes (set (s .votes) p (withMark m (voteAt (s .votes) p))) s
+marked s p m = withVotes (markPut (s .votes) p m) s
 
 -- the site `me` counts itself among the voters of place p that it knows: the OK voters for an OK, else the others
 unfoldable pub countsItself : ℕ → Site → ℕ → Mark → Site

@@ -1,15 +1,14 @@
 // Considering a request: document 01's five rules.
 ghost use mathlib.Core.Path.{_≡_};
 ghost use mathlib.Core.Bool.{_&&_};
-ghost use lib.Dec.{ltb};
-ghost use Rattle.vote.specs.Data.{isOk, isOther, isUnmarked, isDeferred, isOpen, isPending};
-ghost use Rattle.vote.specs.Consider.{newerCopy, olderCopy, inWay, inWayAbove, blocked, blockedAbove, considered, markOf, defers};
+ghost use mathlib.Core.List.{[]};
+ghost use Rattle.vote.specs.Data.{isOk, isOther, isUnmarked, isDeferred, isOpen, isPending, requestOf};
+ghost use Rattle.vote.specs.Consider.{newerCopy, olderCopy, pendingSet, blocked, blockedAbove, considered, markOf, defers};
+ghost use Rattle.vote.specs.Requests.{conflicts, outranks};
 use crate::data::Head;
 use crate::data::Mark;
-use crate::data::Request;
 use crate::data::Verdict;
 use crate::data::Vote;
-use crate::requests::head_of;
 use crate::requests::is_conflicting;
 use crate::requests::is_outranking;
 
@@ -90,20 +89,20 @@ pub fn is_pending(v: Vote) -> bool
     is_ok(m) && is_open(d)
 }
 
-fn below(taken: bool, x: u64, y: u64) -> bool
-    ensures { λ r. ⌜ r ≡ (taken && ltb x y) ⌝ }
-{
-    taken && x < y
-}
-
-// Whether some base item's copy has a larger stamp than the base stamp.
+// Whether some base item's copy has a larger stamp than the base stamp. What is left of the base set gives up its lowest item at each turn.
 pub fn is_newer<'a>(base: u32, based: &'a [u64; 24], held: &'a [u64; 24]) -> bool
     ensures { λ r. ⌜ r ≡ newerCopy base (now (based .entry)) (now (held .entry)) ⌝ }
 {
-    for i in 0..24 {
-        if below(sets::has(base, i), based[i], held[i]) {
+    let mut left = base;
+    while left != 0 {
+        let item = u32::trailing_zeros(left) as usize;
+        if 23 < item {
+            return false;
+        }
+        if based[item] < held[item] {
             return true;
         }
+        left = left & (left - 1);
     }
     false
 }
@@ -115,28 +114,35 @@ pub fn is_older<'a>(base: u32, based: &'a [u64; 24], held: &'a [u64; 24]) -> boo
     is_newer(base, held, based)
 }
 
-// Whether a request o, voted v, is pending and conflicts with q.
-pub fn is_in_way(v: Vote, o: Head, q: Head) -> bool
-    ensures { λ r. ⌜ r ≡ inWay v o q ⌝ }
+// Whether o conflicts with q and has higher priority.
+fn is_above(o: Head, q: Head) -> bool
+    ensures { λ r. ⌜ r ≡ (conflicts q o && outranks o q) ⌝ }
 {
-    is_pending(v) && is_conflicting(q, o)
+    is_conflicting(q, o) && is_outranking(o, q)
 }
 
-// The same, and o has higher priority than q.
-pub fn is_in_way_above(v: Vote, o: Head, q: Head) -> bool
-    ensures { λ r. ⌜ r ≡ inWayAbove v o q ⌝ }
+// The places of the pending requests, as a set.
+fn pending_in(votes: [Vote; 16]) -> u32
+    ensures { λ r. ⌜ r ≡ pendingSet votes ⌝ }
 {
-    is_in_way(v, o, q) && is_outranking(o, q)
+    let mut set: u32 = 0;
+    for j in 0..16 {
+        set = set + (kit::one_if(is_pending(votes[j])) << j);
+    }
+    set
 }
 
-// Whether q conflicts with a pending request.
+// Whether q conflicts with a pending request. What is left of the pending gives up its lowest place at each turn.
 pub fn is_blocked(heads: [Head; 16], votes: [Vote; 16], q: Head) -> bool
     ensures { λ r. ⌜ r ≡ blocked heads votes q ⌝ }
 {
-    for j in 0..16 {
-        if is_in_way(votes[j], heads[j], q) {
+    let mut left = pending_in(votes);
+    while left != 0 {
+        let j = u32::trailing_zeros(left) as usize;
+        if is_conflicting(q, heads[j]) {
             return true;
         }
+        left = left & (left - 1);
     }
     false
 }
@@ -145,33 +151,41 @@ pub fn is_blocked(heads: [Head; 16], votes: [Vote; 16], q: Head) -> bool
 pub fn is_blocked_above(heads: [Head; 16], votes: [Vote; 16], q: Head) -> bool
     ensures { λ r. ⌜ r ≡ blockedAbove heads votes q ⌝ }
 {
-    for j in 0..16 {
-        if is_in_way_above(votes[j], heads[j], q) {
+    let mut left = pending_in(votes);
+    while left != 0 {
+        let j = u32::trailing_zeros(left) as usize;
+        if is_above(heads[j], q) {
             return true;
         }
+        left = left & (left - 1);
     }
     false
 }
 
-// What a site makes of the request q, where `heads` are the table's requests, `votes` what it has said of them and `held` its copy's stamps.
-pub fn consider(heads: [Head; 16], votes: [Vote; 16], held: [u64; 24], q: Request) -> Outcome
-    ensures { λ r. ⌜ r ≡ considered heads votes held q ⌝ }
+// What a site makes of the request with head q and base stamps `based`, where `heads` are the table's requests, `votes` what it has said of
+// them and `held` its copy's stamps. Rule 5 comes before 3 and 4: who conflicts with no pending request conflicts with none of higher priority.
+pub fn consider<'a>(
+    heads: [Head; 16],
+    votes: [Vote; 16],
+    held: &'a [u64; 24],
+    q: Head,
+    based: &'a [u64; 24],
+) -> Outcome
+    ensures { λ r. ⌜ r ≡ considered heads votes (now (held .entry)) (requestOf q (now (based .entry)) []) ⌝ }
 {
-    let based = q.stamps;
-    if is_newer(q.base, &based, &held) {
+    if is_newer(q.base, based, held) {
         return Outcome::Rej;
     }
-    if is_older(q.base, &based, &held) {
+    if is_older(q.base, based, held) {
         return Outcome::DeferBase;
     }
-    let head = head_of(q);
-    if is_blocked_above(heads, votes, head) {
+    if !is_blocked(heads, votes, q) {
+        return Outcome::Ok;
+    }
+    if is_blocked_above(heads, votes, q) {
         return Outcome::Dr;
     }
-    if is_blocked(heads, votes, head) {
-        return Outcome::DeferPending;
-    }
-    Outcome::Ok
+    Outcome::DeferPending
 }
 
 // The mark that an outcome leaves.

@@ -2,7 +2,7 @@
 ghost use mathlib.Core.Path.{_≡_};
 ghost use lib.Dec.{eqb};
 ghost use Rattle.kit.specs.Lists.{without};
-ghost use Rattle.vote.specs.Queue.{queuedAt, joinsQueue, leavesQueue, placeInQueue};
+ghost use Rattle.vote.specs.Queue.{queuedAt, countJoined, queueJoined, leavesQueue, placeInQueue};
 use crate::data::Site;
 
 // The request place at place i of the queue; 0 behind its end.
@@ -15,18 +15,17 @@ pub fn queued_at(queue: [u8; 16], i: usize) -> u8
     queue[i]
 }
 
-// Request place p at the end of the queue; a full queue takes no more.
-pub fn join_queue(mut s: Site, p: u8) -> Site
-    ensures { λ r. ⌜ r ≡ joinsQueue s p ⌝ }
+// Puts request place p at the end of a queue of which the first n places count; how many count then. A full queue takes no more.
+pub fn join_queue(queue: &mut [u8; 16], n: u8, p: u8) -> u8
+    ensures count { λ r. ⌜ r ≡ countJoined n ⌝ }
+    ensures places { λ _. ⌜ now (queue .exit) ≡ queueJoined (now (queue .entry)) n p ⌝ }
 {
-    let n = s.waiting;
     let at = kit::index(n);
     if 15 < at {
-        return s;
+        return n;
     }
-    s.queue[at] = p;
-    s.waiting = n + 1;
-    s
+    queue[at] = p;
+    n + 1
 }
 
 // A queue without its place i: those behind it move up, and the last place is 0.

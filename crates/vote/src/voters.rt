@@ -5,8 +5,8 @@ ghost use Rattle.kit.specs.Range.{all};
 ghost use Rattle.vote.specs.Voters.{knows, votersOf, onlyVoter, joinVoters, clearVoters, noKnown, noRow, hasVoter, noVoters, noneKnown, areAmong, votersListed, votersIn, votersKnown};
 
 // The known voters of place p, site by site.
-pub fn voters_of(known: [bool; 112], p: u8) -> [bool; 7]
-    ensures { λ r. ⌜ r ≡ votersOf known p ⌝ }
+pub fn voters_of(known: &[bool; 112], p: u8) -> [bool; 7]
+    ensures { λ r. ⌜ r ≡ votersOf (now (known .entry)) p ⌝ }
 {
     let mut voters = [false; 7];
     let at = kit::index(p);
@@ -31,18 +31,17 @@ pub fn only_voter(u: u8) -> [bool; 7]
     voters
 }
 
-// The known voters with these of place p joined to them.
-pub fn join_voters(mut known: [bool; 112], p: u8, more: [bool; 7]) -> [bool; 112]
-    ensures { λ r. ⌜ r ≡ joinVoters known p more ⌝ }
+// Joins these voters of place p to the known ones.
+pub fn join_voters(known: &mut [bool; 112], p: u8, more: [bool; 7])
+    ensures { λ _. ⌜ now (known .exit) ≡ joinVoters (now (known .entry)) p more ⌝ }
 {
     let at = kit::index(p);
     if 15 < at {
-        return known;
+        return;
     }
     for u in 0..7 {
         known[7 * at + u] = either(known[7 * at + u], more[u]);
     }
-    known
 }
 
 fn either(a: bool, b: bool) -> bool
@@ -54,18 +53,17 @@ fn either(a: bool, b: bool) -> bool
     b
 }
 
-// The known voters with those of place p forgotten.
-pub fn clear_voters(mut known: [bool; 112], p: u8) -> [bool; 112]
-    ensures { λ r. ⌜ r ≡ clearVoters known p ⌝ }
+// Forgets the known voters of place p.
+pub fn clear_voters(known: &mut [bool; 112], p: u8)
+    ensures { λ _. ⌜ now (known .exit) ≡ clearVoters (now (known .entry)) p ⌝ }
 {
     let at = kit::index(p);
     if 15 < at {
-        return known;
+        return;
     }
     for u in 0..7 {
         known[7 * at + u] = false;
     }
-    known
 }
 
 // Nothing known.
@@ -105,8 +103,8 @@ pub fn is_no_voter(row: [bool; 7]) -> bool
 }
 
 // Whether no voter of place p is known.
-pub fn is_none_known(known: [bool; 112], p: u8) -> bool
-    ensures { λ r. ⌜ r ≡ noneKnown known p ⌝ }
+pub fn is_none_known(known: &[bool; 112], p: u8) -> bool
+    ensures { λ r. ⌜ r ≡ noneKnown (now (known .entry)) p ⌝ }
 {
     is_no_voter(voters_of(known, p))
 }
@@ -143,8 +141,8 @@ pub fn count_voters(row: [bool; 7]) -> u8
 }
 
 // How many voters of place p are known.
-pub fn count_known(known: [bool; 112], p: u8) -> u8
-    ensures { λ r. ⌜ r ≡ votersKnown known p ⌝ }
+pub fn count_known(known: &[bool; 112], p: u8) -> u8
+    ensures { λ r. ⌜ r ≡ votersKnown (now (known .entry)) p ⌝ }
 {
     count_voters(voters_of(known, p))
 }

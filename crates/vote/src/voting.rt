@@ -1,7 +1,7 @@
 // A site marks a request: it votes, or defers.
 ghost use mathlib.Core.Path.{_≡_};
 ghost use Rattle.vote.specs.Data.{voteAt};
-ghost use Rattle.vote.specs.Voting.{marked, voted, deferred, keptOutcome, votedFromQueue};
+ghost use Rattle.vote.specs.Voting.{markPut, voted, deferred, keptOutcome, votedFromQueue};
 use crate::consider::Outcome;
 use crate::consider::is_deferral;
 use crate::consider::is_ok;
@@ -29,42 +29,46 @@ pub fn vote_at(votes: [Vote; 16], p: u8) -> Vote
     votes[at]
 }
 
-// The site with the mark m on the request at place p.
-pub fn put_mark(mut s: Site, p: u8, m: Mark) -> Site
-    ensures { λ r. ⌜ r ≡ marked s p m ⌝ }
+// What a site has said, with the mark m on the request at place p.
+pub fn put_mark(mut votes: [Vote; 16], p: u8, m: Mark) -> [Vote; 16]
+    ensures { λ r. ⌜ r ≡ markPut votes p m ⌝ }
 {
     let at = kit::index(p);
     if 15 < at {
-        return s;
+        return votes;
     }
-    let v = s.votes[at];
-    s.votes[at] = Vote { mark: m, ..v };
-    s
+    let v = votes[at];
+    votes[at] = Vote { mark: m, ..v };
+    votes
 }
 
 // The site `me` votes m on the request at place p; the vote counts at once among the voters that it knows.
-pub fn cast_vote(s: Site, me: u8, p: u8, m: Mark) -> Site
+pub fn cast_vote(mut s: Site, me: u8, p: u8, m: Mark) -> Site
     ensures { λ r. ⌜ r ≡ voted me s p m ⌝ }
 {
-    let mut t = put_mark(s, p, m);
+    let votes = s.votes;
+    let marked = put_mark(votes, p, m);
+    s.votes = marked;
     let own = only_voter(me);
     if is_ok(m) {
-        let oks = t.oks;
-        let more = join_voters(oks, p, own);
-        t.oks = more;
-        return t;
+        join_voters(&mut s.oks, p, own);
+        return s;
     }
-    let others = t.others;
-    let more = join_voters(others, p, own);
-    t.others = more;
-    t
+    join_voters(&mut s.others, p, own);
+    s
 }
 
 // The site defers the request at place p, which joins the end of its queue.
-pub fn defer(s: Site, p: u8) -> Site
+pub fn defer(mut s: Site, p: u8) -> Site
     ensures { λ r. ⌜ r ≡ deferred s p ⌝ }
 {
-    join_queue(put_mark(s, p, Mark::Deferred), p)
+    let votes = s.votes;
+    let marked = put_mark(votes, p, Mark::Deferred);
+    s.votes = marked;
+    let n = s.waiting;
+    let more = join_queue(&mut s.queue, n, p);
+    s.waiting = more;
+    s
 }
 
 // The site `me` keeps what came of considering the request at place p, which was in no queue.

@@ -1,4 +1,6 @@
 -- Laws of the walk, each family in a file of its own.
+mod Elements
+mod TakenApart
 mod Turns
 pub mod Walks
 pub mod Inductions

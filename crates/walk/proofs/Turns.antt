@@ -2,12 +2,14 @@
 -- tests as the code gives them.
 use Prim.Native.Nat.{ℕ, _+_, _-_, _≤_, _<_}
 use mathlib.Core.Bool.{Bool, true, false, not}
-use mathlib.Core.List.{List}
+use mathlib.Core.List.{List, []}
 use mathlib.Core.Path.{_≡_, ap, sym, _∙_}
 use native.Mathlib.Omega.{arith}
-use borrow.Author.Tests.{lt-ltb, le-ltb, not-true, not-false}
+use borrow.Author.Tests.{not-true, not-false}
+use lib.IntN.{ℤ, pos}
+use lib.ListN.{length}
 use Rattle.vote.specs.Consider.{considered, markOf, defers}
-use Rattle.vote.specs.Data.{headsOf, isOpen, requestAt, requestIn, blankRequest}
+use Rattle.vote.specs.Data.{isOpen, headAt, requestIn, requestOf}
 use Rattle.vote.specs.Verdicts.{verdictDue, ruled}
 use Rattle.vote.specs.Voting.{votedFromQueue}
 use Rattle.vote.specs.declared.consider.Outcome.{Outcome}
@@ -17,19 +19,13 @@ use Rattle.vote.specs.declared.data.Request.{Request}
 use Rattle.vote.specs.declared.data.Site.{Site}
 use Rattle.vote.specs.declared.data.Verdict.{Verdict}
 use Rattle.vote.specs.declared.data.Verdict.the-variants as verdict
+use Rattle.vote.proofs.Considering.{considered-parts}
+use Rattle.vote.proofs.Writes.{ruled-by}
+use Rattle.walk.specs.Parts.{rowAt, requestsFrom}
 use Rattle.walk.specs.Walking.{queued, outcomeAt, votedAt, dueAt, walked, resolved, answerOf, accepts, rejects, acceptsOf, rejectsOf}
 use Rattle.walk.specs.declared.walking.Settled.{Settled}
+use Rattle.walk.proofs.TakenApart.{part-in, part-heads}
 use Rattle.walk.proofs.Walks.{fewer-voted, fewer-ruled, few-verdicts, walk-ends, walk-keeps, walk-votes, walk-rules}
-
--- ---- the request at a place: `let mut q = blank_request(); if p < 16 { q = rs[p as usize]; }`
-
-pub request-in : (rs : List Request) (p : ℕ) (q : Request) → p < 16 → q ≡ requestAt rs p → q ≡ requestIn rs p
-unfolding requestIn
-request-in rs p q h e = rw (lt-ltb p 16 h) e
-
-pub request-out : (rs : List Request) (p : ℕ) (q b : Request) → 16 ≤ p → q ≡ b → b ≡ blankRequest → q ≡ requestIn rs p
-unfolding requestIn
-request-out rs p q b h e f = rw (le-ltb p 16 h) (e ∙ f)
 
 -- ---- a turn
 
@@ -40,11 +36,20 @@ pub record Turn (me n : ℕ) (rs : List Request) (s : Site) (i p : ℕ) (o : Out
   pub outcome : o ≡ outcomeAt me n rs s i
   pub answer : answerOf (walked me n rs s i) ≡ a
 
+-- with the requests taken apart
 pub turn-is
-    : (me n : ℕ) (rs : List Request) (s : Site) (i p : ℕ) (o : Outcome) {q : Request} {heads : List Head} {w : ℕ} {a : Settled} → i < w → w ≡ s .waiting
-    → p ≡ queued s i → q ≡ requestIn rs p → heads ≡ headsOf rs → o ≡ considered heads (s .votes) (s .stamps) q → answerOf (walked me n rs s i) ≡ a
-    → Turn me n rs s i p o a
-turn-is me n rs s i p o h hw hp hq hh ho e = record { inside = rw hw at h; place = hp; outcome = rw (ho, hq, hh, hp); answer = e }
+    : (me n : ℕ) (heads : List Head) (based : List ℕ) (news : List ℤ) (s : Site) (i p : ℕ) (o : Outcome) {q : Head} {row : List ℕ} {w : ℕ} {a : Settled}
+    → length heads ≡ 16 → i < w → w ≡ s .waiting → p ≡ queued s i → q ≡ headAt heads p → row ≡ rowAt 0 based p
+    → o ≡ considered heads (s .votes) (s .stamps) (requestOf q row []) → answerOf (walked me n (requestsFrom heads based news) s i) ≡ a
+    → Turn me n (requestsFrom heads based news) s i p o a
+turn-is me n heads based news s i p o {q} {row} few h hw hp hq hr ho e = record {
+  inside = rw hw at h;
+  place = hp;
+  outcome =
+      rw (part-heads heads based news few, part-in heads based news few (queued s i), ← hp, ← hq, ← hr)
+      (ho ∙ considered-parts heads (s .votes) (s .stamps) (requestOf q row (rowAt (pos 0) news p)) []);
+  answer = e;
+}
 
 module _ {me n : ℕ} {rs : List Request} {s : Site} {i p : ℕ} {o : Outcome} {a : Settled} (k : Turn me n rs s i p o a) where
   -- it defers or not
@@ -90,17 +95,28 @@ end-turn me n rs s i e h hw = ap answerOf (sym (walk-ends me n rs s i (rw hw at 
 pub voted-fewer : (me : ℕ) (s : Site) (i p : ℕ) (m : Mark) {u : Site} → u ≡ votedFromQueue me s i p m → u .waiting ≡ s .waiting - 1
 voted-fewer me s i p m hu = rw hu (fewer-voted me s i p m)
 
+pub fewer-left : {w a b i : ℕ} → i < w → w ≡ a → b ≡ a - 1 → b - i < a - i
+fewer-left h e f = omega arith
+
+pub fewer-than : {a b : ℕ} → b ≡ a - 1 → b ≤ a
+fewer-than f = omega arith
+
 pub ruled-fewer : (s : Site) (q : Request) (p : ℕ) (d : Verdict) {u : Site} → u ≡ ruled s q p d → u .waiting ≤ s .waiting
 ruled-fewer s q p d hu = rw hu (fewer-ruled s q p d)
 
 -- ---- the verdict itself is counted
 
 pub count-turn
-    : (me n : ℕ) (rs : List Request) (s : Site) (p : ℕ) (v : Verdict) (q : Request) (u : Site) {r : Settled} {a b : ℕ} → q ≡ requestIn rs p → u ≡ ruled s q p v
-    → r ≡ answerOf (walked me n rs u 0) → a ≡ acceptsOf v → b ≡ rejectsOf v
-    → _≡_ {A = Settled} (record { site = r .site; accepted = r .accepted + a; rejected = r .rejected + b }) (answerOf (resolved me n rs s p v))
+    : (me n : ℕ) (heads : List Head) (based : List ℕ) (news : List ℤ) (s : Site) (p : ℕ) (v : Verdict) (q : Head) (row : List ℤ) (u : Site) {r : Settled} {a b : ℕ}
+    → length heads ≡ 16 → q ≡ headAt heads p → row ≡ rowAt (pos 0) news p → u ≡ ruled s (requestOf q [] row) p v
+    → r ≡ answerOf (walked me n (requestsFrom heads based news) u 0) → a ≡ acceptsOf v → b ≡ rejectsOf v
+    → _≡_ {A = Settled} (record { site = r .site; accepted = r .accepted + a; rejected = r .rejected + b })
+    (answerOf (resolved me n (requestsFrom heads based news) s p v))
 unfolding accepts rejects
-count-turn me n rs s p v q u hq hu hr ha hb = rw (ha, hb, hr, hu, hq)
+count-turn me n heads based news s p v q row u few hq hw hu hr ha hb =
+    let e : u ≡ ruled s (requestIn (requestsFrom heads based news) p) p v =
+    rw (part-in heads based news few p, ← hq, ← hw) (hu ∙ ruled-by s (requestOf q (rowAt 0 based p) row) [] p v) in
+    rw (ha, hb, hr, e)
 
 pub few-answers : (me n : ℕ) (rs : List Request) (s : Site) (i : ℕ) {r : Settled} → r ≡ answerOf (walked me n rs s i) → r .accepted + r .rejected ≤ s .waiting
 few-answers me n rs s i e = rw e (few-verdicts me n rs s i)

@@ -1,4 +1,4 @@
--- `plans::hearing::settle` meets its contract: no verdict falls, or one, and the queue is empty after it or not.
+-- `plans::hearing::settle` meets its contract: no verdict falls, or one is left, or it falls.
 use Rattle.plans.proofs.AtHearing.{settle-open, settle-left, settle-alone}
 use borrow.Author.Needs.{needs}
 use Rattle.plans.proofs.hearing.settle.Statement.{statement}
@@ -12,8 +12,9 @@ settle-spec =
     (λ c κs. search needs)
     (λ c. search settle-open)
     (λ c κs. search needs)
-    (λ c κs. search needs)
     (λ c. search settle-left)
+    (λ c κs. search needs)
+    (λ c κs. search needs)
     (λ c κs. search needs)
     (λ c κs. search needs)
     (λ c. search settle-alone))

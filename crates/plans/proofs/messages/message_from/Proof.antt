@@ -7,9 +7,4 @@ use Rattle.plans.proofs.messages.message_from.Tie as tie
 pub message-from-spec : {M : Type 1} → statement M
 message-from-spec =
     tie.close
-    (tie.spec
-    (λ c κs. search needs)
-    (λ c κs. search needs)
-    (λ c κs. search needs)
-    (λ c κs. search needs)
-    (λ c. search message-is))
+    (tie.spec (λ c κs. search needs) (λ c κs. search needs) (λ c κs. search needs) (λ c. search message-is))

@@ -1,18 +1,24 @@
 -- `record::body::read_one_site` meets its contract: as `read_tell`.
 use borrow.Author.Needs.{needs}
 use Rattle.record.specs.Bodies.{siteStep}
+use Rattle.record.specs.Records.{briefOf}
+use Rattle.record.proofs.Codes.{sized-wrong, sized-right}
 use Rattle.record.proofs.body.read_one_site.Statement.{statement}
 use Rattle.record.proofs.body.read_one_site.Tie as tie
 
-blank-step-requires : tie.Need-blank-step-requires
-blank-step-requires c κs = search needs
-
-byte-at-requires : tie.Need-byte-at-requires
-byte-at-requires c κs = search needs
-
 returns : tie.Need-returns
-unfolding siteStep
-returns c = rw (c .before .blank-step .ensures, c .byte-at .ensures)
+returns c = sized-wrong _ _ (c .before .if1 .taken) (c .no-step .ensures)
+
+returns-2 : tie.Need-returns-2
+unfolding briefOf siteStep
+returns-2 c = sized-right _ _ (c .before .before .if1 .left) (rw (c .before .no-step2 .ensures, c .byte-at .ensures))
 
 pub read-one-site-spec : {M : Type 1} → statement M
-read-one-site-spec = tie.close (tie.spec blank-step-requires byte-at-requires returns)
+read-one-site-spec =
+    tie.close
+    (tie.spec
+    (λ c κs. search needs)
+    returns
+    (λ c κs. search needs)
+    (λ c κs. search needs)
+    returns-2)

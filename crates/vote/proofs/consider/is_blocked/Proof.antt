@@ -1,33 +1,46 @@
--- `vote::consider::is_blocked` meets its contract: a loop that returns at the first hit computes `any`.
-use Prim.Native.Nat.{_-_}
-use Rattle.vote.specs.Consider.{inWay, blocked}
-use Rattle.vote.specs.Data.{voteAt, headAt}
+-- `vote::consider::is_blocked` meets its contract: a loop over the pending that returns at the first hit computes `any`.
+use mathlib.Core.Bool.{Bool}
+use mathlib.Core.List.{List}
+use mathlib.Core.Path.{sym, _∙_}
+use Prim.Native.Nat.{ℕ, _^_, _<_}
+use native.Mathlib.Omega.{arith}
 use borrow.Author.Needs.{needs}
-use Rattle.kit.proofs.Loops.{Missed, somes}
+use Rattle.sets.proofs.Lowest.{Sought, sought-start, sought-item, sought-below, sought-less, sought-more, sought-found, sought-over}
+use Rattle.vote.specs.Data.{headAt}
+use Rattle.vote.specs.Requests.{conflicts}
+use Rattle.vote.specs.declared.data.Head.{Head}
+use Rattle.vote.proofs.Considering.{pending-lt, blocked-from}
 use Rattle.vote.proofs.consider.is_blocked.Statement.{statement}
 use Rattle.vote.proofs.consider.is_blocked.Tie as tie
 
+-- the request at place j conflicts with q
+abbrev stands : Head → List Head → ℕ → Bool
+stands q heads j = conflicts q (headAt heads j)
+
 abbrev Inv-loop : tie.InvT-loop
-Inv-loop q heads votes j₀ j = Missed 16 (λ k. inWay (voteAt votes k) (headAt heads k) q) j
+Inv-loop q heads left₀ left = Sought left₀ (stands q heads) left
 
 abbrev μ-loop : tie.MeasureT-loop
-μ-loop q heads votes j₀ j = 16 - j
+μ-loop q heads left₀ left = left
+
+-- the pending are among the 16 places
+few : (c : tie.After-pending-in Inv-loop μ-loop) → c .pending-in .result < 2 ^ 16
+few c = pending-lt _ (c .pending-in .ensures)
 
 pub is-blocked-spec : {M : Type 1} → statement M
-unfolding blocked
 is-blocked-spec =
     tie.close
     (tie.spec
     Inv-loop
     μ-loop
-    (λ c. search somes)
-    (λ c. search somes)
-    (λ c. search somes)
-    (λ c. search somes)
-    (λ c. search somes)
     (λ c κs. search needs)
-    (λ c. search somes)
-    (λ c. search somes)
-    (λ c. search somes)
-    (λ c. search somes)
-    (λ c. search somes))
+    (λ c. sought-start _ _ (omega (arith, few c)))
+    (λ c. omega (arith, sought-item _ _ _ (c .before .loop .inv) (c .loop-test .taken)))
+    (λ c. omega (arith, sought-item _ _ _ (c .before .loop .inv) (c .loop-test .taken)))
+    (λ c. sought-below _ _ _ (c .before .loop .inv) (c .loop-test .taken) 16 (few (c .before .before)))
+    (λ c κs. search needs)
+    (λ c. blocked-from _ _ _ (c .before .before .before .before .before .pending-in .ensures) (sought-found _ _ _ (c .before .before .before .before .loop .inv) (c .before .before .before .loop-test .taken) 16 (sought-below _ _ _ (c .before .before .before .before .loop .inv) (c .before .before .before .loop-test .taken) 16 (few (c .before .before .before .before .before))) (sym (c .before .is-conflicting .ensures) ∙ c .if1 .taken)))
+    (λ c. search needs)
+    (λ c. sought-less _ _ _ (c .before .before .before .before .loop .inv) (c .before .before .before .loop-test .taken))
+    (λ c. sought-more _ _ _ (c .before .before .before .before .loop .inv) (c .before .before .before .loop-test .taken) (sym (c .before .is-conflicting .ensures) ∙ c .if1 .left))
+    (λ c. blocked-from _ _ _ (c .before .before .pending-in .ensures) (sought-over _ _ 16 _ (c .before .loop .inv) (c .loop-test .left))))

@@ -2,30 +2,33 @@
 use Prim.Native.Nat.{_-_, _≤_}
 use mathlib.Core.Path.{_≡_, _∙_}
 use mathlib.Core.Bool.{true, false}
+use mathlib.Core.List.{[]}
 use mathlib.Core.Logic.{⊎-elim}
 use native.Mathlib.Omega.{arith}
 use borrow.Author.Needs.{needs, sfits-of}
 use mir.Syntax.{w32}
 use mir.ValLaws.{toZ-ofZ}
+use Rattle.vote.specs.Data.{requestOf}
 use Rattle.vote.specs.Verdicts.{writesItem, writtenUpTo, writtenSite}
 use Rattle.vote.proofs.Writes.{written-none, written-more, asks-both, asks-one}
 use Rattle.vote.proofs.verdicts.write_copy.Statement.{statement}
 use Rattle.vote.proofs.verdicts.write_copy.Tie as tie
 
 abbrev Inv-loop : tie.InvT-loop
-Inv-loop s₀ q i₀ s i = (i ≤ 24) × (s ≡ writtenUpTo i s₀ q)
+Inv-loop q news s₀ i₀ s i = (i ≤ 24) × (s ≡ writtenUpTo i s₀ (requestOf q [] news))
 
 abbrev μ-loop : tie.MeasureT-loop
-μ-loop s₀ q i₀ s i = 24 - i
+μ-loop q news s₀ i₀ s i = 24 - i
 
 loop-again : tie.Need-loop-again Inv-loop μ-loop
 loop-again c =
     let l = c .before .before .before .loop in
-    let q = c .before .before .before .before .args .t2 in (
+    let a = c .before .before .before .before .args in
+    let q = requestOf (a .q) [] (a .news .now) in (
       omega arith,
       written-more _ _ _ (l .inv .1)
           (⊎-elim
-          (λ w. let y : writesItem (l .s .stamps) q (l .i) ≡ true = search asks-both in w .4 ∙ rw (toZ-ofZ w32 _ (sfits-of (w .3 .given)), y))
+          (λ w. let y : writesItem (l .s .stamps) q (l .i) ≡ true = search asks-both in w .5 ∙ rw (toZ-ofZ w32 _ (sfits-of (w .4 .given)), y))
           (λ w. w .1
           ∙ ⊎-elim (λ v. let n : writesItem (l .s .stamps) q (l .i) ≡ false = search asks-both in rw n)
           (λ v. let n : writesItem (l .s .stamps) q (l .i) ≡ false = search asks-one in rw n) (w .0 .came))

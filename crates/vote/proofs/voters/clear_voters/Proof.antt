@@ -9,10 +9,10 @@ use Rattle.vote.proofs.voters.clear_voters.Statement.{statement}
 use Rattle.vote.proofs.voters.clear_voters.Tie as tie
 
 abbrev Inv-loop : tie.InvT-loop
-Inv-loop p known₀ at u₀ known u = (u ≤ 7) × (known ≡ clearUpTo u known₀ p)
+Inv-loop known₀ p at u₀ known u = (u ≤ 7) × (known ≡ clearUpTo u known₀ p)
 
 abbrev μ-loop : tie.MeasureT-loop
-μ-loop p known₀ at u₀ known u = 7 - u
+μ-loop known₀ p at u₀ known u = 7 - u
 
 pub clear-voters-spec : {M : Type 1} → statement M
 clear-voters-spec =
@@ -21,7 +21,7 @@ clear-voters-spec =
     Inv-loop
     μ-loop
     (λ c κs. search needs)
-    (λ c. search (needs, cleared-out))
+    (λ c. search cleared-out)
     (λ c. search (cleared-none, arith))
     (λ c. search needs)
     (λ c. search needs)

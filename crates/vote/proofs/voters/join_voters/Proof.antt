@@ -9,10 +9,10 @@ use Rattle.vote.proofs.voters.join_voters.Statement.{statement}
 use Rattle.vote.proofs.voters.join_voters.Tie as tie
 
 abbrev Inv-loop : tie.InvT-loop
-Inv-loop p known₀ more at u₀ known u = (u ≤ 7) × (known ≡ joinUpTo u known₀ p more)
+Inv-loop known₀ p more at u₀ known u = (u ≤ 7) × (known ≡ joinUpTo u known₀ p more)
 
 abbrev μ-loop : tie.MeasureT-loop
-μ-loop p known₀ more at u₀ known u = 7 - u
+μ-loop known₀ p more at u₀ known u = 7 - u
 
 pub join-voters-spec : {M : Type 1} → statement M
 join-voters-spec =
@@ -21,7 +21,7 @@ join-voters-spec =
     Inv-loop
     μ-loop
     (λ c κs. search needs)
-    (λ c. search (needs, joined-out))
+    (λ c. search joined-out)
     (λ c. search (joined-none, arith))
     (λ c. search needs)
     (λ c. search needs)

@@ -10,10 +10,10 @@ use Rattle.vote.proofs.voters.voters_of.Statement.{statement}
 use Rattle.vote.proofs.voters.voters_of.Tie as tie
 
 abbrev Inv-loop : tie.InvT-loop
-Inv-loop p known voters₀ at u₀ voters u = (u ≤ 7) × Filled false 7 (knows known p) u voters
+Inv-loop known p voters₀ at u₀ voters u = (u ≤ 7) × Filled false 7 (knows known p) u voters
 
 abbrev μ-loop : tie.MeasureT-loop
-μ-loop p known voters₀ at u₀ voters u = 7 - u
+μ-loop known p voters₀ at u₀ voters u = 7 - u
 
 -- one voter more
 one-more : tie.Need-loop-again Inv-loop μ-loop

@@ -7,7 +7,7 @@ use Rattle.vote.proofs.Marks.{marks-out, marks-in}
 use Rattle.vote.proofs.voting.put_mark.Statement.{statement}
 use Rattle.vote.proofs.voting.put_mark.Tie as tie
 
-long : (c : tie.Start) → length (c .args .t1 .votes) ≡ 16
+long : (c : tie.Start) → length (c .args .t1) ≡ 16
 long c = search (needs, length-mapped)
 
 pub put-mark-spec : {M : Type 1} → statement M
