@@ -1,6 +1,6 @@
 -- What a site does with a request that it begins or hears of, over the values that the code has at hand: a law for each way through it.
 use Prim.Native.Nat.{ℕ}
-use mathlib.Core.Bool.{Bool, true, false, not}
+use mathlib.Core.Bool.{Bool, true, false}
 use mathlib.Core.List.{List, []}
 use mathlib.Core.Path.{_≡_, sym, ap, _∙_}
 use borrow.Author.Tests.{eq-eqb, ne-eqb}
@@ -20,7 +20,7 @@ use Rattle.vote.specs.declared.data.Verdict.{Verdict}
 use Rattle.vote.specs.declared.data.Verdict.the-variants as verdict
 use Rattle.walk.specs.Walking.{acceptsOf, rejectsOf}
 use Rattle.plans.specs.Answers.{results}
-use Rattle.plans.specs.Pieces.{unruled, takenUpAlone, leftWith, settledAlone}
+use Rattle.plans.specs.Pieces.{takenUpAlone, leftWith, settledAlone}
 use Rattle.plans.specs.declared.hearing.Heard.{Heard}
 use Rattle.plans.specs.declared.hearing.Hearing.{Hearing}
 

@@ -26,7 +26,6 @@ use vote::data::Site;
 use vote::data::Verdict;
 use vote::data::Vote;
 use vote::requests::blank_request;
-use vote::requests::head_of;
 use vote::verdicts::verdict_due;
 use vote::voters::join_voters;
 use vote::voters::no_voters;

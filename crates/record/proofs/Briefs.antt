@@ -10,7 +10,7 @@ use lib.IntN.{ℤ, pos}
 use lib.ListN.{length, take, drop, replicate}
 use Rattle.kit.proofs.Bools.{clash, by-eq, of-cond, cond-yes}
 use Rattle.record.specs.Bodies.{beginLength, beginStep, tellStep, placeStep, siteStep, retireStep, readStep}
-use Rattle.record.specs.Records.{codeOf, lengthOf, endOf, bodyOf, Asked, asked, refused, bodyRead, isCut, recordOf, briefOf, stepFrom}
+use Rattle.record.specs.Records.{codeOf, lengthOf, bodyOf, Asked, asked, refused, bodyRead, isCut, recordOf, briefOf, stepFrom}
 use Rattle.record.specs.Records.Asked.{unknown, known}
 use Rattle.record.specs.declared.Brief.{Brief}
 use Rattle.record.specs.declared.Record.{Record}

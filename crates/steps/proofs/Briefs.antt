@@ -1,7 +1,7 @@
 -- A record that was read without a begin's stamps and values: no other step looks at these, so any do.
 use Prim.Native.Nat.{ℕ}
 use mathlib.Core.List.{List}
-use mathlib.Core.Path.{_≡_, refl, sym, ap, _∙_}
+use mathlib.Core.Path.{_≡_, refl, ap, _∙_}
 use borrow.Author.Tests.{ne-eqb}
 use lib.IntN.{ℤ}
 use Rattle.kit.proofs.Bools.{by-eq}

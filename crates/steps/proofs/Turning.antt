@@ -20,7 +20,7 @@ use Rattle.plans.specs.declared.answer.Answer.{Answer}
 use Rattle.steps.specs.declared.answer.Stepped.{Stepped}
 use Rattle.steps.specs.declared.answering.Answered.{Answered}
 use Rattle.steps.proofs.Advancing.{Kept}
-use Rattle.steps.proofs.Arms.{Held, PutBack}
+use Rattle.steps.proofs.Arms.{Held}
 use Rattle.steps.proofs.Briefs.{recordFrom, answered-brief}
 use Rattle.steps.proofs.Running.{Going, Facing, facing-start, facing-same, facing-wrote, going-full, going-cut, going-read, answered-kept}
 

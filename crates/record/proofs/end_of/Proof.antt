@@ -1,5 +1,5 @@
 -- `record::end_of` meets its contract: cut by its header, cut by its body, or whole.
-use mathlib.Core.Path.{sym, _∙_}
+use mathlib.Core.Path.{sym}
 use native.Mathlib.Omega.{arith}
 use borrow.Author.Needs.{needs}
 use Rattle.kit.proofs.Fields.{field-lt}

@@ -1,5 +1,4 @@
 -- `record::read_stamps` meets its contract: no begin, or what stands in the body of one.
-use native.Mathlib.Omega.{arith}
 use borrow.Author.Needs.{needs}
 use mathlib.Core.Path.{sym, ap, _∙_}
 use Rattle.record.specs.declared.Step.{Step}
