@@ -56,10 +56,12 @@ use Rattle.vote.proofs.verdicts.verdict_due.Kinds as verdict-due-kinds
 use Rattle.vote.proofs.verdicts.verdict_due.Reads as verdict-due-reads
 use Rattle.vote.proofs.verdicts.write_copy.Kinds as write-copy-kinds
 use Rattle.vote.proofs.verdicts.write_copy.Reads as write-copy-reads
+use Rattle.vote.proofs.verdicts.write_ruled.Kinds as write-ruled-kinds
+use Rattle.vote.proofs.verdicts.write_ruled.Reads as write-ruled-reads
 use Rattle.vote.proofs.verdicts.release.Kinds as release-kinds
 use Rattle.vote.proofs.verdicts.release.Reads as release-reads
-use Rattle.vote.proofs.verdicts.decide.Kinds as decide-kinds
-use Rattle.vote.proofs.verdicts.decide.Reads as decide-reads
+use Rattle.vote.proofs.verdicts.note_verdict.Kinds as note-verdict-kinds
+use Rattle.vote.proofs.verdicts.note_verdict.Reads as note-verdict-reads
 use Rattle.vote.proofs.verdicts.rule.Kinds as rule-kinds
 use Rattle.vote.proofs.verdicts.rule.Reads as rule-reads
 use Rattle.vote.proofs.voters.voters_of.Kinds as voters-of-kinds
@@ -100,10 +102,6 @@ use Rattle.vote.proofs.voting.cast_vote.Kinds as cast-vote-kinds
 use Rattle.vote.proofs.voting.cast_vote.Reads as cast-vote-reads
 use Rattle.vote.proofs.voting.defer.Kinds as defer-kinds
 use Rattle.vote.proofs.voting.defer.Reads as defer-reads
-use Rattle.vote.proofs.voting.keep_outcome.Kinds as keep-outcome-kinds
-use Rattle.vote.proofs.voting.keep_outcome.Reads as keep-outcome-reads
-use Rattle.vote.proofs.voting.vote_from_queue.Kinds as vote-from-queue-kinds
-use Rattle.vote.proofs.voting.vote_from_queue.Reads as vote-from-queue-reads
 
 -- vote::consider::is_ok
 pub one-is-ok : OneOutcome is-ok-kinds.ps is-ok-kinds.r is-ok-reads.Learnt
@@ -211,15 +209,19 @@ one-verdict-due κs a r r′ w w′ p q = (as-one p q, refl)
 
 -- vote::verdicts::write_copy
 pub one-write-copy : OneOutcome write-copy-kinds.ps write-copy-kinds.r write-copy-reads.Learnt
-one-write-copy κs a r r′ w w′ p q = (as-one p q, refl)
+one-write-copy κs a r r′ w w′ p q = (refl, part-by-part (as-one (p .0) (q .0)) (part-by-part (as-one (p .1) (q .1)) refl))
+
+-- vote::verdicts::write_ruled
+pub one-write-ruled : OneOutcome write-ruled-kinds.ps write-ruled-kinds.r write-ruled-reads.Learnt
+one-write-ruled κs a r r′ w w′ p q = (refl, part-by-part refl (part-by-part (as-one (p .0) (q .0)) (part-by-part (as-one (p .1) (q .1)) refl)))
 
 -- vote::verdicts::release
 pub one-release : OneOutcome release-kinds.ps release-kinds.r release-reads.Learnt
 one-release κs a r r′ w w′ p q = (as-one p q, refl)
 
--- vote::verdicts::decide
-pub one-decide : OneOutcome decide-kinds.ps decide-kinds.r decide-reads.Learnt
-one-decide κs a r r′ w w′ p q = (as-one p q, refl)
+-- vote::verdicts::note_verdict
+pub one-note-verdict : OneOutcome note-verdict-kinds.ps note-verdict-kinds.r note-verdict-reads.Learnt
+one-note-verdict κs a r r′ w w′ p q = (as-one p q, refl)
 
 -- vote::verdicts::rule
 pub one-rule : OneOutcome rule-kinds.ps rule-kinds.r rule-reads.Learnt
@@ -295,16 +297,8 @@ one-put-mark κs a r r′ w w′ p q = (as-one p q, refl)
 
 -- vote::voting::cast_vote
 pub one-cast-vote : OneOutcome cast-vote-kinds.ps cast-vote-kinds.r cast-vote-reads.Learnt
-one-cast-vote κs a r r′ w w′ p q = (as-one p q, refl)
+one-cast-vote κs a r r′ w w′ p q = (as-one (p .0) (q .0), part-by-part refl (part-by-part (as-one (p .1 .0) (q .1 .0)) (part-by-part (as-one (p .1 .1) (q .1 .1)) refl)))
 
 -- vote::voting::defer
 pub one-defer : OneOutcome defer-kinds.ps defer-kinds.r defer-reads.Learnt
 one-defer κs a r r′ w w′ p q = (as-one p q, refl)
-
--- vote::voting::keep_outcome
-pub one-keep-outcome : OneOutcome keep-outcome-kinds.ps keep-outcome-kinds.r keep-outcome-reads.Learnt
-one-keep-outcome κs a r r′ w w′ p q = (as-one p q, refl)
-
--- vote::voting::vote_from_queue
-pub one-vote-from-queue : OneOutcome vote-from-queue-kinds.ps vote-from-queue-kinds.r vote-from-queue-reads.Learnt
-one-vote-from-queue κs a r r′ w w′ p q = (as-one p q, refl)

@@ -1,13 +1,11 @@
 -- Where the pieces are, as the code finds them: an index that is there, the site of a digit, and the first place of a kind.
-use Prim.Native.Nat.{ℕ, suc, _-_, _<_, _≤_}
+use Prim.Native.Nat.{ℕ, _-_, _<_, _≤_}
 use mathlib.Core.Bool.{Bool, false, not}
 use mathlib.Core.List.{List}
 use mathlib.Core.Path.{_≡_}
-use native.Mathlib.Omega.{arith}
-use borrow.Author.Tests.{eq-eqb, ne-eqb, le-leb, lt-leb, leb-true}
-use lib.Dec.{eqb, leb}
+use borrow.Author.Tests.{eq-eqb, ne-eqb, le-leb, lt-leb}
+use lib.Dec.{eqb}
 use lib.ListN.{getD}
-use Rattle.kit.proofs.Bools.{of-cond}
 use Rattle.kit.specs.Lists.{listed}
 use Rattle.kit.specs.Range.{first}
 use Rattle.table.specs.Places.{noMessage}
@@ -25,10 +23,6 @@ within-low i last h = rw (le-leb i last h)
 pub within-high : (i last : ℕ) → last < i → last ≡ within i last
 unfolding within
 within-high i last h = rw (lt-leb i last h)
-
-pub within-under : (i last : ℕ) → within i last < suc last
-unfolding within
-within-under i last = of-cond (λ (k : ℕ). k < suc last) (leb i last) (λ e. let l = leb-true i last e in omega arith) (λ e. omega arith)
 
 -- ---- the first place of a kind
 

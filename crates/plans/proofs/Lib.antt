@@ -1,8 +1,10 @@
--- A law for each way through a step on its pieces.
+-- A law for each way through a step on its pieces, and for a table taken apart.
 mod Digits
+pub mod Turns
 pub mod Found
 mod AtSites
 mod Sending
-mod AtHearing
 mod Retiring
 mod Beginning
+mod Planning
+pub mod Opening

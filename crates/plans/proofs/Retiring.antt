@@ -6,22 +6,14 @@ use mathlib.Core.Path.{_≡_, sym}
 use native.Mathlib.Omega.{arith}
 use borrow.Author.Tests.{eq-eqb, ne-eqb, lt-ltb, le-ltb, not-true, not-false}
 use lib.Dec.{eqb, ltb}
-use lib.IntN.{pos}
-use lib.ListN.{length, getD, set}
+use lib.ListN.{length, set}
 use lib.Seq.{set-out}
-use Rattle.kit.specs.Range.{any}
-use Rattle.table.specs.Places.{noSite, noMessage}
-use Rattle.table.specs.declared.data.Message.{Message}
-use Rattle.vote.specs.Data.{isOpen, noVote, voteAt, blankRequest, withKnown, withVotes}
+use Rattle.vote.specs.Data.{isOpen, noVote}
 use Rattle.vote.specs.Voters.{clearVoters}
-use Rattle.vote.specs.declared.data.Request.{Request}
-use Rattle.vote.specs.declared.data.Site.{Site}
+use Rattle.vote.specs.declared.data.Notes.{Notes}
 use Rattle.vote.specs.declared.data.Vote.{Vote}
-use Rattle.plans.specs.Answers.{results}
-use Rattle.plans.specs.Pieces.{unretired, retireNumberOf, retirePlan}
-use Rattle.plans.specs.Changes.{forgotten}
-use Rattle.plans.specs.declared.answer.Answer.{Answer}
-use Rattle.plans.specs.declared.retire.Leaving.{Leaving}
+use Rattle.plans.specs.Pieces.{retireNumberOf}
+use Rattle.plans.specs.Changes.{notesForgotten, votersForgotten}
 
 -- ---- one site, one message
 
@@ -37,7 +29,23 @@ named-unused u b h = rw (not-true u h)
 pub named-used : (u : Bool) (r p : ℕ) → not u ≡ false → eqb r p ≡ (u && eqb r p)
 named-used u r p h = rw (not-false u h)
 
--- ---- what is forgotten
+-- ---- the number
+
+module _ (p : ℕ) (held : Bool) where
+  pub retire-unknown : p ≡ 16 → 10 ≡ retireNumberOf p held
+  unfolding retireNumberOf
+  retire-unknown e = rw (eq-eqb p 16 e)
+
+  module _ (e : p ≡ 16 → ⊥) where
+    pub retire-held : held ≡ true → 14 ≡ retireNumberOf p held
+    unfolding retireNumberOf
+    retire-held t = rw (ne-eqb p 16 e, t)
+
+    pub retire-done : held ≡ false → 0 ≡ retireNumberOf p held
+    unfolding retireNumberOf
+    retire-done t = rw (ne-eqb p 16 e, t)
+
+-- ---- what is forgotten at one site
 
 pub vote-beyond : (votes : List Vote) (p : ℕ) {i : ℕ} → length votes ≡ 16 → i ≡ p → 15 < i → votes ≡ set votes p noVote
 vote-beyond votes p l e h = let k : length votes ≤ p = omega arith in sym (set-out votes p noVote k)
@@ -45,31 +53,17 @@ vote-beyond votes p l e h = let k : length votes ≤ p = omega arith in sym (set
 pub vote-cleared : (votes : List Vote) (p : ℕ) {i : ℕ} → i ≡ p → set votes i noVote ≡ set votes p noVote
 vote-cleared votes p e = rw e
 
-pub forget-is
-    : (p : ℕ) (s : Site) {votes : List Vote} {oks others : List Bool} → votes ≡ set (s .votes) p noVote → oks ≡ clearVoters (s .oks) p → others ≡ clearVoters (s .others) p
-    → withVotes votes (withKnown oks others s) ≡ forgotten p 0 s
-unfolding forgotten
-forget-is p s d e f = rw (d, e, f)
+pub notes-forgot
+    : (p : ℕ) (s : Notes) {votes : List Vote} → votes ≡ set (s .votes) p noVote
+    → _≡_ {A = Notes} (record { votes = votes; queue = s .queue; waiting = s .waiting }) (notesForgotten p 0 s)
+unfolding notesForgotten
+notes-forgot p s e = rw e
 
--- ---- the step
+-- the place of the site says nothing
+pub notes-anywhere : (p k : ℕ) (s : Notes) {r : Notes} → r ≡ notesForgotten p 0 s → r ≡ notesForgotten p k s
+unfolding notesForgotten
+notes-anywhere p k s e = e
 
-module _ (n : ℕ) (sites : List Site) (messages : List Message) (p : ℕ) (q : Request) where
-  pub retire-unknown : {z : Leaving} → p ≡ 16 → z ≡ unretired 10 q → z ≡ retirePlan n sites messages p q
-  unfolding retirePlan retireNumberOf
-  retire-unknown e r = rw (eq-eqb p 16 e) r
-
-  module _ (e : p ≡ 16 → ⊥) {b : Bool} (h : b ≡ any 7 (λ k. ltb k n && isOpen (voteAt (getD sites k noSite .votes) p .verdict))) where
-    pub retire-open : {z : Leaving} → b ≡ true → z ≡ unretired 14 q → z ≡ retirePlan n sites messages p q
-    unfolding retirePlan retireNumberOf
-    retire-open t r = rw (ne-eqb p 16 e, ← h, t) r
-
-    module _ (t : b ≡ false) {c : Bool} (g : c ≡ any 64 (λ j. getD messages j noMessage .used && eqb (getD messages j noMessage .request) p)) where
-      pub retire-named : {z : Leaving} → c ≡ true → z ≡ unretired 14 q → z ≡ retirePlan n sites messages p q
-      unfolding retirePlan retireNumberOf
-      retire-named m r = rw (ne-eqb p 16 e, ← h, t, ← g, m) r
-
-      pub retire-done
-          : {a : Answer} {x : Request} → c ≡ false → a ≡ results (pos 0) 0 0 0 → x ≡ blankRequest
-          → _≡_ {A = Leaving} (record { answer = a; request = x; forgetting = 7 }) (retirePlan n sites messages p q)
-      unfolding retirePlan retireNumberOf
-      retire-done m ha hx = rw (ne-eqb p 16 e, ← h, t, ← g, m, ha, hx)
+pub voters-anywhere : (p k : ℕ) (known : List Bool) {r : List Bool} → r ≡ clearVoters known p → r ≡ votersForgotten p k known
+unfolding votersForgotten
+voters-anywhere p k known e = e

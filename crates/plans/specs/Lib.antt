@@ -2,3 +2,5 @@
 pub mod Answers
 pub mod Changes
 pub mod Pieces
+pub mod Plans
+pub mod Opened

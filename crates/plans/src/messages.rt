@@ -1,33 +1,21 @@
 // Steps 2, 3 and 4: tell, deliver and drop.
 ghost use mathlib.Core.Path.{_≡_};
 ghost use mathlib.Core.Bool.{not, _||_, cond};
-ghost use lib.Dec.{ltb};
-ghost use Rattle.vote.specs.Data.{isOk, isOther, isOpen, blankRequest};
+ghost use Rattle.vote.specs.Data.{isOk, isOther, isOpen};
 ghost use Rattle.vote.specs.Voters.{votersOf, noRow};
-ghost use Rattle.plans.specs.Pieces.{postedAs, tellPlan, dropPlan, deliverPlan};
+ghost use Rattle.plans.specs.Pieces.{postedAs, tellPlan, dropPlan, deliverNumberOf};
 ghost use Rattle.plans.specs.Changes.{messageOf};
 use crate::answer::Answer;
 use crate::answer::give;
 use crate::answer::refuse;
-use crate::hearing::Hearing;
-use crate::hearing::leave_due;
-use crate::hearing::settle;
-use crate::hearing::take_up;
 use crate::sites::is_site;
 use table::data::Message;
 use table::fresh::blank_message;
 use vote::consider::is_ok;
 use vote::consider::is_open;
 use vote::consider::is_other;
-use vote::consider::is_unmarked;
-use vote::data::Head;
-use vote::data::Request;
-use vote::data::Site;
 use vote::data::Verdict;
 use vote::data::Vote;
-use vote::requests::blank_request;
-use vote::verdicts::verdict_due;
-use vote::voters::join_voters;
 use vote::voters::no_voters;
 use vote::voters::voters_of;
 use vote::voting::vote_at;
@@ -98,9 +86,21 @@ fn keep(number: u8, message: Message) -> Post
     }
 }
 
-// Step 2: the site s, whose digit is `from`, tells `to` of the request at place p. The lowest free message place is j, and m stands there.
-pub fn tell(n: u8, from: u8, to: u8, s: Site, p: u8, j: u8, m: Message) -> Post
-    ensures { λ r. ⌜ r ≡ tellPlan n from to s p j m ⌝ }
+// Step 2: the site with the digit `from`, which is up or not, has said `votes` and knows these voters, tells `to` of the request at place p. The
+// lowest free message place is j, and m stands there.
+pub fn tell<'a>(
+    n: u8,
+    from: u8,
+    to: u8,
+    up: bool,
+    votes: [Vote; 16],
+    oks: &'a [bool; 112],
+    others: &'a [bool; 112],
+    p: u8,
+    j: u8,
+    m: Message,
+) -> Post
+    ensures { λ r. ⌜ r ≡ tellPlan n from to up votes (now (oks .entry)) (now (others .entry)) p j m ⌝ }
 {
     if !is_site(n, from) {
         return keep(3, m);
@@ -110,13 +110,12 @@ pub fn tell(n: u8, from: u8, to: u8, s: Site, p: u8, j: u8, m: Message) -> Post
     }
     let teller = from - 1;
     let receiver = to - 1;
-    if !s.up {
+    if !up {
         return keep(4, m);
     }
     if p == 16 {
         return keep(10, m);
     }
-    let votes = s.votes;
     let v = vote_at(votes, p);
     if !has_word(v) {
         return keep(11, m);
@@ -130,7 +129,7 @@ pub fn tell(n: u8, from: u8, to: u8, s: Site, p: u8, j: u8, m: Message) -> Post
     let verdict = v.verdict;
     Post {
         answer: give(j as i64, 0),
-        message: message_from(verdict, &s.oks, &s.others, p, teller, receiver),
+        message: message_from(verdict, oks, others, p, teller, receiver),
     }
 }
 
@@ -150,59 +149,21 @@ pub fn drop(j: u8, m: Message) -> Post
     }
 }
 
-// The request q, where p is a request place; else none.
-fn request_there(p: u8, q: Request) -> Request
-    ensures { λ r. ⌜ r ≡ cond (ltb p 16) q blankRequest ⌝ }
-{
-    if 15 < p {
-        return blank_request();
-    }
-    q
-}
-
-// Step 3: the message m at message place j, which names the request q, comes to the site s. A verdict held there already keeps it as it is,
-// one that is sent is taken over; else the voters are joined, and a request not marked yet is considered.
-pub fn deliver(n: u8, j: u8, m: Message, heads: [Head; 16], mut s: Site, q: Request) -> Hearing
-    ensures { λ r. ⌜ r ≡ deliverPlan n j m heads s q ⌝ }
+// Step 3, its number: the message m at message place j comes to its receiver, which is up or not.
+pub fn deliver_number(j: u8, m: Message, up: bool) -> u8
+    ensures { λ r. ⌜ r ≡ deliverNumberOf j m up ⌝ }
 {
     if 63 < j {
-        return leave_due(13, s, Verdict::Open);
+        return 13;
     }
     if !m.used {
-        return leave_due(13, s, Verdict::Open);
+        return 13;
     }
     if 6 < m.to {
-        return leave_due(4, s, Verdict::Open);
+        return 4;
     }
-    if !s.up {
-        return leave_due(4, s, Verdict::Open);
+    if !up {
+        return 4;
     }
-    let p = m.request;
-    let votes = s.votes;
-    let v = vote_at(votes, p);
-    let held = v.verdict;
-    if !is_open(held) {
-        return leave_due(0, s, Verdict::Open);
-    }
-    let named = request_there(p, q);
-    let sent = m.verdict;
-    if !is_open(sent) {
-        return settle(s, p, named, sent);
-    }
-    let oks = m.oks;
-    let others = m.others;
-    join_voters(&mut s.oks, p, oks);
-    join_voters(&mut s.others, p, others);
-    let due = verdict_due(&s.oks, &s.others, n, p);
-    if !is_open(due) {
-        return settle(s, p, named, due);
-    }
-    let mark = v.mark;
-    if !is_unmarked(mark) {
-        return leave_due(0, s, Verdict::Open);
-    }
-    let h = take_up(n, m.to, heads, s, p, named);
-    let site = h.site;
-    let next = h.due;
-    settle(site, p, named, next)
+    0
 }

@@ -3,44 +3,41 @@ ghost use mathlib.Core.Path.{_≡_};
 ghost use mathlib.Core.Bool.{_&&_};
 ghost use lib.Dec.{eqb, ltb};
 ghost use lib.ListN.{getD, set};
+ghost use Rattle.kit.specs.Lists.{changed};
 ghost use Rattle.kit.specs.Range.{any};
-ghost use Rattle.table.specs.Places.{noSite, noMessage};
+ghost use Rattle.table.specs.Places.{noMessage};
 ghost use Rattle.vote.specs.Data.{isOpen, noVote, voteAt};
-ghost use Rattle.plans.specs.Pieces.{unretired, retirePlan};
-ghost use Rattle.plans.specs.Changes.{forgotten};
-use crate::answer::Answer;
-use crate::answer::give;
-use crate::answer::refuse;
+ghost use Rattle.vote.specs.Notes.{noNotes};
+ghost use Rattle.plans.specs.Pieces.{heldBackBy, retireNumberOf};
+ghost use Rattle.plans.specs.Changes.{notesForgotten, votersForgotten};
 use table::data::Message;
 use vote::consider::is_open;
 use vote::data::Mark;
-use vote::data::Request;
-use vote::data::Site;
+use vote::data::Notes;
 use vote::data::Verdict;
 use vote::data::Vote;
-use vote::requests::blank_request;
 use vote::voters::clear_voters;
 use vote::voting::vote_at;
 
-// Whether site k of n holds the request at place p open.
-fn is_open_at(n: u8, k: usize, s: Site, p: u8) -> bool
-    ensures { λ r. ⌜ r ≡ (ltb k n && isOpen (voteAt (s .votes) p .verdict)) ⌝ }
+// Whether site k of n, which has these notes, holds the request at place p open.
+fn is_open_at(n: u8, k: usize, notes: Notes, p: u8) -> bool
+    ensures { λ r. ⌜ r ≡ (ltb k n && isOpen (voteAt (notes .votes) p .verdict)) ⌝ }
 {
     if kit::index(n) <= k {
         return false;
     }
-    let votes = s.votes;
+    let votes = notes.votes;
     let v = vote_at(votes, p);
     let d = v.verdict;
     is_open(d)
 }
 
 // Whether some site of the table has no verdict on the request at place p.
-fn is_open_somewhere(n: u8, sites: [Site; 7], p: u8) -> bool
-    ensures { λ r. ⌜ r ≡ any 7 (λ k. ltb k n && isOpen (voteAt (getD sites k noSite .votes) p .verdict)) ⌝ }
+fn is_open_somewhere(n: u8, notes: [Notes; 7], p: u8) -> bool
+    ensures { λ r. ⌜ r ≡ any 7 (λ k. ltb k n && isOpen (voteAt (getD notes k noNotes .votes) p .verdict)) ⌝ }
 {
     for k in 0..7 {
-        if is_open_at(n, k, sites[k], p) {
+        if is_open_at(n, k, notes[k], p) {
             return true;
         }
     }
@@ -68,6 +65,29 @@ fn is_named(messages: [Message; 64], p: u8) -> bool
     false
 }
 
+// Whether the request at place p is held back: some site of the table has no verdict on it, or a message names it.
+pub fn is_held_back(n: u8, notes: [Notes; 7], messages: [Message; 64], p: u8) -> bool
+    ensures { λ r. ⌜ r ≡ heldBackBy n notes messages p ⌝ }
+{
+    if is_open_somewhere(n, notes, p) {
+        return true;
+    }
+    is_named(messages, p)
+}
+
+// Step 7, its number: the request at place p, which is 16 where no request has the stamp, and which is held back or not.
+pub fn retire_number(p: u8, held: bool) -> u8
+    ensures { λ r. ⌜ r ≡ retireNumberOf p held ⌝ }
+{
+    if p == 16 {
+        return 10;
+    }
+    if held {
+        return 14;
+    }
+    0
+}
+
 // The votes with nothing said of place p.
 fn clear_vote(mut votes: [Vote; 16], p: u8) -> [Vote; 16]
     ensures { λ r. ⌜ r ≡ set votes p noVote ⌝ }
@@ -83,52 +103,32 @@ fn clear_vote(mut votes: [Vote; 16], p: u8) -> [Vote; 16]
     votes
 }
 
-// A site that holds nothing of place p any more.
-pub fn forget(mut s: Site, p: u8) -> Site
-    ensures { λ r. ⌜ r ≡ forgotten p 0 s ⌝ }
+// The notes of a site that has said nothing of place p any more.
+fn forget_vote(mut notes: Notes, p: u8) -> Notes
+    ensures { λ r. ⌜ r ≡ notesForgotten p 0 notes ⌝ }
 {
-    let votes = s.votes;
+    let votes = notes.votes;
     let fewer = clear_vote(votes, p);
-    s.votes = fewer;
-    clear_voters(&mut s.oks, p);
-    clear_voters(&mut s.others, p);
-    s
+    notes.votes = fewer;
+    notes
 }
 
-// The answer, what stands at the request place now, and how many sites are to forget it: all 7 or none.
-pub struct Leaving {
-    pub answer: Answer,
-    pub request: Request,
-    pub forgetting: usize,
-}
-
-// A request place that is left as it was.
-fn hold(number: u8, request: Request) -> Leaving
-    ensures { λ r. ⌜ r ≡ unretired number request ⌝ }
+// All sites' notes with nothing said of place p any more.
+pub fn forget_votes(mut notes: [Notes; 7], p: u8) -> [Notes; 7]
+    ensures { λ r. ⌜ r ≡ changed 7 (notesForgotten p) notes ⌝ }
 {
-    Leaving {
-        answer: refuse(number),
-        request,
-        forgetting: 0,
+    for k in 0..7 {
+        let fewer = forget_vote(notes[k], p);
+        notes[k] = fewer;
     }
+    notes
 }
 
-// Step 7: the request q at place p, which is 16 where no request has the stamp, leaves the table.
-pub fn retire(n: u8, sites: [Site; 7], messages: [Message; 64], p: u8, q: Request) -> Leaving
-    ensures { λ r. ⌜ r ≡ retirePlan n sites messages p q ⌝ }
+// Each site forgets the voters of one kind that it knows of place p.
+pub fn forget_voters(known: &mut [[bool; 112]; 7], p: u8)
+    ensures { λ _. ⌜ now (known .exit) ≡ changed 7 (votersForgotten p) (now (known .entry)) ⌝ }
 {
-    if p == 16 {
-        return hold(10, q);
-    }
-    if is_open_somewhere(n, sites, p) {
-        return hold(14, q);
-    }
-    if is_named(messages, p) {
-        return hold(14, q);
-    }
-    Leaving {
-        answer: give(0, 0),
-        request: blank_request(),
-        forgetting: 7,
+    for k in 0..7 {
+        clear_voters(&mut known[k], p);
     }
 }

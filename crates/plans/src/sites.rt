@@ -6,7 +6,6 @@ ghost use Rattle.plans.specs.Pieces.{downPlan, upPlan, readPlan, leftAs}
 use crate::answer::Answer;
 use crate::answer::give;
 use crate::answer::refuse;
-use vote::data::Site;
 
 // Whether a digit is 1 to the site count.
 pub(crate) fn is_site(n: u8, digit: u8) -> bool
@@ -66,19 +65,26 @@ pub fn up(n: u8, digit: u8, up: bool) -> Turn
     }
 }
 
-// Step 8: the reading of an item at the site s, which has this digit.
-pub fn read(n: u8, digit: u8, s: Site, item: u8) -> Answer
-    ensures { λ r. ⌜ r ≡ readPlan n digit s item ⌝ }
+// Step 8: the reading of an item at the site with this digit, which is up or not and has this copy.
+pub fn read<'a>(
+    n: u8,
+    digit: u8,
+    up: bool,
+    stamps: &'a [u64; 24],
+    values: &'a [i32; 24],
+    item: u8,
+) -> Answer
+    ensures { λ r. ⌜ r ≡ readPlan n digit up (now (stamps .entry)) (now (values .entry)) item ⌝ }
 {
     if !is_site(n, digit) {
         return refuse(3);
     }
-    if !s.up {
+    if !up {
         return refuse(4);
     }
     let i = kit::index(item);
     if 23 < i {
         return refuse(16);
     }
-    give(s.values[i] as i64, s.stamps[i])
+    give(values[i] as i64, stamps[i])
 }

@@ -1,9 +1,8 @@
 -- The laws of the steps.
-mod Forgetting
 mod Summaries
-mod Settling
 mod Advancing
 mod Arms
+mod Apart
 -- The conditions of a step, and that each step keeps the table sound.
 pub mod Allowed
 pub mod Upkeep

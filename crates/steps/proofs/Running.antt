@@ -1,43 +1,37 @@
 -- A run over a buffer: each record that is taken leads from what is left to do before it to what is left behind it.
 use mathlib.Core.Path.{_≡_, refl, sym, ap, ap₂, _∙_}
-use mathlib.Core.Bool.{Bool, true, false, not, _||_, cond}
-use mathlib.Core.List.{List, [], _∷_, _++_}
+use mathlib.Core.Bool.{Bool, true, false, not}
+use mathlib.Core.List.{List, [], _++_}
 use Prim.Native.Nat.{ℕ, zero, suc, _+_, _-_, _^_, _≤_, _<_}
 use native.Mathlib.Omega.{arith}
 use borrow.Author.Tests.{eq-eqb, ne-eqb, leb-false, ltb-false, not-true, not-false}
-use lib.Dec.{lit<, eqb, leb, ltb}
+use lib.Dec.{leb, ltb}
 use lib.IntN.{ℤ, pos, negsuc, natAbs}
 use lib.ListN.{length, take, drop, length-append, length-drop}
-use native.Mathlib.Nat.{add-zero, zero-add, add-assoc}
+use native.Mathlib.Nat.{add-zero, add-assoc}
 use lib.Seq.{take-all, drop-drop}
 use mir.Syntax.{w64}
 use mir.Val.{SFits}
 use Rattle.kit.specs.Lists.{put, placed}
-use Rattle.kit.proofs.Bools.{by-test, of-cond, or-left, or-right}
+use Rattle.kit.proofs.Bools.{by-test, or-left, or-right}
 use Rattle.kit.proofs.Puts.{put-put, put-none, placed-in, length-put}
-use Rattle.lines.specs.Lines.{lineOf, fitted}
+use Rattle.lines.specs.Lines.{fitted}
 use Rattle.lines.proofs.Writes.{fitted-in}
 use Rattle.plans.specs.Answers.{refusal}
 use Rattle.plans.specs.declared.answer.Answer.{Answer}
 use Rattle.record.specs.Records.{isCut, recordOf}
 use Rattle.record.specs.declared.Record.{Record}
 use Rattle.record.specs.declared.Step.{Step}
-use Rattle.record.proofs.Laws.{next-cut, next-whole, whole-next, next-inside}
+use Rattle.record.proofs.Laws.{next-whole, whole-next, next-inside}
 use Rattle.record.proofs.Frames.{cut-header}
 use Rattle.table.specs.Sound.{soundTable}
 use Rattle.table.specs.declared.data.Table.{Table}
 use Rattle.steps.specs.Steps.{advanced}
-use Rattle.steps.specs.Night.{Parted, before, partedBy, parted, answeredOn, lineFor, Part, noPart, onePart, isFull, partOf, partFrom, partBehind, ranAs, ran, ranInto}
+use Rattle.steps.specs.Night.{before, partedBy, parted, answeredOn, lineFor, Part, noPart, onePart, isFull, partOf, partFrom, partBehind, ranAs, ran, ranInto}
 use Rattle.steps.specs.declared.answer.Stepped.{Stepped}
 use Rattle.steps.specs.declared.run.Ran.{Ran}
-use Rattle.steps.proofs.Advancing.{Kept, kept-whole, advanced-kept}
 
 -- ---- the answer to a record
-
--- the site count stays, and how long the three lists are
-pub answered-kept : (t : Table) (r : Record) → Kept t (answeredOn t r .table)
-unfolding answeredOn
-answered-kept t r = of-cond (λ (s : Stepped). Kept t (s .table)) (eqb (r .number) 0) (λ e. advanced-kept t (r .step)) (λ e. kept-whole t)
 
 -- one that was refused when it was read, and one that holds a step
 pub answered-refused : (t : Table) (r : Record) → (r .number ≡ 0 → ⊥) → {w : Answer} → w ≡ refusal (r .number) → record { answer = w; table = t } ≡ answeredOn t r

@@ -1,21 +1,20 @@
--- The two summaries of a table, the heads of its requests and which message places are used: what is read off them, and how a store changes
--- them.
+-- The two summaries of a table, the heads of its requests and which message places are used: what is read off them, and how a message stored
+-- changes the second.
 use Prim.Native.Nat.{ℕ, _<_}
 use mathlib.Core.Bool.{false, not}
 use mathlib.Core.List.{List}
-use mathlib.Core.Path.{_≡_, sym, _∙_}
-use native.Mathlib.Decide.{ℕ-discrete}
+use mathlib.Core.Path.{_≡_}
 use lib.Dec.{eqb}
-use lib.ListN.{length, getD, set, length-set}
-use lib.Seq.{getD-set-same, getD-set-other, ext-getD}
-use Rattle.kit.proofs.Listings.{length-listed, listed-at}
+use lib.ListN.{length, getD, set}
+use lib.Seq.{getD-set-same, getD-set-other}
+use Rattle.kit.proofs.Listings.{listed-at}
 use Rattle.kit.proofs.Ranges.{first-same}
-use Rattle.kit.specs.Lists.{listed}
+use Rattle.plans.proofs.Turns.{listed-set}
 use Rattle.plans.specs.Pieces.{usedOf, freeIn, placeIn, freeMessageIn}
 use Rattle.table.specs.Places.{noMessage, placeAt, messageAt}
 use Rattle.table.specs.declared.data.Message.{Message}
 use Rattle.table.specs.declared.data.Table.{Table}
-use Rattle.vote.specs.Data.{noHead, noRequest, requestAt, headAt, headOf, headsOf}
+use Rattle.vote.specs.Data.{noHead, requestAt, headAt, headOf, headsOf}
 use Rattle.vote.specs.declared.data.Request.{Request}
 use Rattle.steps.specs.Numbers.{freePlace, freeMessage, placeOf}
 
@@ -48,29 +47,9 @@ module _ (t : Table) where
 
 -- ---- a store
 
-listed-set
-    : {A B : Type 0} (n : ℕ) (f : A → B) (l : List A) (k : ℕ) (a d : A) (e : B) → k < n → k < length l
-    → listed n (λ i. f (getD (set l k a) i d)) ≡ set (listed n (λ i. f (getD l i d))) k (f a)
-listed-set {A} {B} n f l k a d e h m =
-    ext-getD e (listed n (λ i. f (getD (set l k a) i d))) (set (listed n (λ i. f (getD l i d))) k (f a))
-    (length-listed n (λ i. f (getD (set l k a) i d)) ∙ sym (length-set (listed n (λ i. f (getD l i d))) k (f a) ∙ length-listed n (λ i. f (getD l i d))))
-    (λ i b. each i (rw (length-listed n (λ j. f (getD (set l k a) j d))) at b))
-  where
-    each : (i : ℕ) → i < n → getD (listed n (λ j. f (getD (set l k a) j d))) i e ≡ getD (set (listed n (λ j. f (getD l j d))) k (f a)) i e
-    each i b = listed-at n i (λ j. f (getD (set l k a) j d)) e b ∙ go (ℕ-discrete i k)
-      where
-        go : Dec (i ≡ k) → f (getD (set l k a) i d) ≡ getD (set (listed n (λ j. f (getD l j d))) k (f a)) i e
-        go (yes z) =
-            let w : k < length (listed n (λ j. f (getD l j d))) = rw (length-listed n (λ j. f (getD l j d))) h in
-            rw (z, getD-set-same l k a d m, getD-set-same (listed n (λ j. f (getD l j d))) k (f a) e w)
-        go (no z) = rw (getD-set-other l k i a d z, getD-set-other (listed n (λ j. f (getD l j d))) k i (f a) e z) (sym (listed-at n i (λ j. f (getD l j d)) e b))
-
--- a request stored
-pub heads-set : (rs : List Request) (p : ℕ) (q : Request) → p < 16 → length rs ≡ 16 → headsOf (set rs p q) ≡ set (headsOf rs) p (headOf q)
-unfolding headsOf
-heads-set rs p q h l = listed-set 16 headOf rs p q noRequest noHead h (rw l h)
-
 -- a message stored
 pub used-set : (ms : List Message) (j : ℕ) (m : Message) → j < 64 → length ms ≡ 64 → usedOf (set ms j m) ≡ set (usedOf ms) j (m .used)
 unfolding usedOf
-used-set ms j m h l = listed-set 64 (λ (x : Message). x .used) ms j m noMessage false h (rw l h)
+used-set ms j m h l =
+    listed-set 64 (λ i. getD (set ms j m) i noMessage .used) (λ i. getD ms i noMessage .used) j (m .used) h (rw (getD-set-same ms j m noMessage (rw l h)))
+    (λ i ne. rw (getD-set-other ms j i m noMessage ne))

@@ -3,4 +3,4 @@ pub mod Answers
 pub mod Numbers
 pub mod Steps
 pub mod Night
-pub mod Finished
+pub mod Opened

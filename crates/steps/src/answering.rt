@@ -1,42 +1,47 @@
 // Records answered one after the other on a table that is sound, and that stays in one place meanwhile.
 ghost use mathlib.Core.Path.{_≡_};
-ghost use mathlib.Core.Bool.{false};
+ghost use mathlib.Core.Bool.{false, _||_};
+ghost use lib.Dec.{eqb};
 ghost use Prim.Native.Nat.{_≤_};
 ghost use lib.ListN.{length, drop};
-ghost use Rattle.kit.specs.Lists.{put, placed, changed};
+ghost use Rattle.kit.specs.Lists.{put, placed};
 ghost use Rattle.lines.specs.Lines.{fitted};
 ghost use Rattle.steps.specs.Night.{answeredOn, lineFor, isFull, partBehind, ranAs, stoppedAt};
-ghost use Rattle.plans.specs.Changes.{forgotten};
+ghost use Rattle.steps.specs.Opened.{tableFrom};
 use crate::run::Ran;
 use lines::write_line;
 use plans::answer::Answer;
 use plans::answer::refuse;
-use plans::begin::begin;
-use plans::messages::deliver;
-use plans::messages::drop;
-use plans::messages::tell;
+use plans::opened::notes_of;
+use plans::opened::oks_of;
+use plans::opened::others_of;
+use plans::opened::sites_from;
+use plans::opened::stamps_of;
+use plans::opened::values_of;
 use plans::places::clamp;
 use plans::places::message_for;
 use plans::places::place_for;
 use plans::places::site_for;
 use plans::places::used_of;
-use plans::retire::forget;
-use plans::retire::retire;
-use plans::sites::down;
-use plans::sites::read;
-use plans::sites::up;
+use plans::plan::plan_step;
+use plans::retire::forget_voters;
+use plans::retire::forget_votes;
+use plans::retire::is_held_back;
 use record::Brief;
 use record::Record;
 use record::read_brief;
 use record::read_stamps;
 use record::read_values;
 use table::data::Table;
-use vote::consider::is_open;
-use vote::data::Site;
-use vote::data::Verdict;
-use vote::requests::head_of;
+use vote::data::Head;
+use vote::data::Notes;
 use vote::requests::heads_of;
-use walk::walking::resolve;
+use walk::hearing::attend;
+use walk::parts::based_of;
+use walk::parts::news_of;
+use walk::parts::requests_from;
+use walk::parts::store_stamps;
+use walk::parts::store_values;
 
 // How many bytes a buffer has.
 pub(crate) fn bytes_in(b: &[u8]) -> usize
@@ -73,28 +78,34 @@ fn write_answer(output: &mut [u8], at: usize, nth: u64, w: Answer) -> usize
     )
 }
 
-// The sites, of which the first n hold nothing of place p any more.
-fn forget_all(mut sites: [Site; 7], n: usize, p: u8) -> [Site; 7]
-    requires { ⌜ n ≤ 7 ⌝ }
-    ensures { λ r. ⌜ r ≡ changed n (forgotten p) sites ⌝ }
-{
-    for u in 0..n {
-        let s = forget(sites[u], p);
-        sites[u] = s;
-    }
-    sites
-}
-
 // The answer to the last record, and how far the run came.
 pub struct Answered {
     pub last: Answer,
     pub ran: Ran,
 }
 
-// A run that stops here.
-fn stop(last: Answer, taken: usize, written: usize, next: u64, table: Table) -> Answered
-    ensures { λ r. ⌜ r ≡ stoppedAt last taken written next table ⌝ }
+// A run that stops here: the table is put together again.
+fn stop(
+    last: Answer,
+    taken: usize,
+    written: usize,
+    next: u64,
+    t: Table,
+    heads: [Head; 16],
+    based: [u64; 384],
+    news: [i32; 384],
+    stamps: [[u64; 24]; 7],
+    values: [[i32; 24]; 7],
+    notes: [Notes; 7],
+    oks: [[bool; 112]; 7],
+    others: [[bool; 112]; 7],
+) -> Answered
+    ensures { λ r. ⌜ r ≡ stoppedAt last taken written next (tableFrom t heads based news stamps values notes oks others) ⌝ }
 {
+    let before = t.sites;
+    let messages = t.messages;
+    let sites = sites_from(before, stamps, values, notes, oks, others);
+    let requests = requests_from(heads, &based, &news);
     Answered {
         last,
         ran: Ran {
@@ -102,15 +113,30 @@ fn stop(last: Answer, taken: usize, written: usize, next: u64, table: Table) -> 
             taken,
             written,
             next,
-            table,
+            table: Table {
+                count: t.count,
+                sites,
+                requests,
+                messages,
+            },
         },
     }
 }
 
+// Whether a run ends here: there is no room for another line, no number for another record, or no whole record, whose size is 0 then.
+fn is_over(room: usize, nth: u64, size: usize) -> bool
+    ensures { λ r. ⌜ r ≡ (isFull room nth || eqb size 0) ⌝ }
+{
+    if is_full(room, nth) {
+        return true;
+    }
+    size == 0
+}
+
 // Answers the first record, whose bytes the input starts with, and then record after record of the input, while one is whole and there is
-// room for its line. For each the pieces that its step is about are taken out of the table, planned on and put back; only a verdict at a site
-// where a request waits looks at all requests. The heads of the requests and the used message places are kept beside the table, and so are
-// the stamps and values of the last begin, which no other step looks at.
+// room for its line. The table is taken apart meanwhile: its requests into heads and rows of base stamps and new values; its sites into notes,
+// and rows of copies and of known voters, all of which are lent and changed where they stand; only whether a site is up, its last t and the messages
+// stay in the table. The used message places are kept beside it, and so are the stamps and values of the last begin, which no other step looks at.
 pub(crate) fn answer_from(
     mut t: Table,
     first: Record,
@@ -129,8 +155,16 @@ pub(crate) fn answer_from(
     let end = bytes_in(input);
     let room = bytes_in(output);
     let requests = t.requests;
+    let sites = t.sites;
     let messages = t.messages;
     let mut heads = heads_of(requests);
+    let mut based = based_of(requests);
+    let mut news = news_of(requests);
+    let mut held_stamps = stamps_of(sites);
+    let mut held_values = values_of(sites);
+    let mut notes = notes_of(sites);
+    let mut oks = oks_of(sites);
+    let mut others = others_of(sites);
     let mut used = used_of(messages);
     let step = first.step;
     let mut stamps = step.stamps;
@@ -162,96 +196,95 @@ pub(crate) fn answer_from(
             let k = site_for(code, r.site, told.to);
             let p = place_for(code, heads, r.stamp, told.request);
             let i = clamp(kit::index(p), 15);
-            let mut due = Verdict::Open;
-            match code {
-                1 => {
-                    let c = begin(
-                        t.count,
-                        heads,
-                        t.sites[k],
-                        p,
-                        t.requests[i],
-                        r,
-                        &stamps,
-                        &values,
-                    );
-                    let q = c.request;
-                    let s = c.site;
-                    t.requests[i] = q;
-                    heads[i] = head_of(q);
-                    t.sites[k] = s;
-                    answer = c.answer;
-                    due = c.due;
-                }
-                2 => {
-                    let c = tell(t.count, r.site, r.to, t.sites[k], p, j, told);
-                    let m = c.message;
-                    t.messages[x] = m;
-                    used[x] = m.used;
-                    answer = c.answer;
-                }
-                3 => {
-                    let c = deliver(t.count, j, told, heads, t.sites[k], t.requests[i]);
-                    let s = c.site;
-                    t.sites[k] = s;
-                    answer = c.answer;
-                    due = c.due;
-                }
-                4 => {
-                    let c = drop(j, told);
-                    let lost = c.message;
-                    t.messages[x] = lost;
-                    used[x] = lost.used;
-                    answer = c.answer;
-                }
-                5 => {
-                    let c = down(t.count, r.site, t.sites[k].up);
-                    t.sites[k].up = c.up;
-                    answer = c.answer;
-                }
-                6 => {
-                    let c = up(t.count, r.site, t.sites[k].up);
-                    t.sites[k].up = c.up;
-                    answer = c.answer;
-                }
-                7 => {
-                    let sites = t.sites;
-                    let held = t.messages;
-                    let c = retire(t.count, sites, held, p, t.requests[i]);
-                    let q = c.request;
-                    t.requests[i] = q;
-                    heads[i] = head_of(q);
-                    answer = c.answer;
-                    if c.forgetting != 0 {
-                        let later = forget_all(sites, c.forgetting, p);
-                        t.sites = later;
-                    }
-                }
-                8 => {
-                    answer = read(t.count, r.site, t.sites[k], r.item);
-                }
-                0 | 9..=255 => {
-                    answer = refuse(2);
-                }
+            let mut kept = false;
+            if code == 7 {
+                let held = t.messages;
+                kept = is_held_back(t.count, notes, held, p);
             }
-            if !is_open(due) {
-                let rs = t.requests;
-                let out = resolve(rs, t.sites[k], t.count, k as u8, p, due);
-                let s = out.site;
-                t.sites[k] = s;
-                answer.accepted = out.accepted;
-                answer.rejected = out.rejected;
+            let said = notes[k];
+            let votes = said.votes;
+            let c = plan_step(
+                t.count,
+                r,
+                &stamps,
+                &values,
+                j,
+                told,
+                t.sites[k].up,
+                t.sites[k].last,
+                votes,
+                &oks[k],
+                &others[k],
+                &held_stamps[k],
+                &held_values[k],
+                p,
+                kept,
+            );
+            let m = c.message;
+            t.messages[x] = m;
+            used[x] = m.used;
+            t.sites[k].up = c.up;
+            t.sites[k].last = c.last;
+            answer = c.answer;
+            if c.stores {
+                let h = c.head;
+                heads[i] = h;
+                store_stamps(&mut based, i, h.base, &stamps);
+                store_values(&mut news, i, h.update, &values);
+            }
+            if c.forgets {
+                notes = forget_votes(notes, p);
+                forget_voters(&mut oks, p);
+                forget_voters(&mut others, p);
+            }
+            if c.attends {
+                let mine = notes[k];
+                let sent = told.verdict;
+                let told_oks = told.oks;
+                let told_others = told.others;
+                let w = attend(
+                    code == 1,
+                    heads,
+                    &based,
+                    &news,
+                    mine,
+                    &mut held_stamps[k],
+                    &mut held_values[k],
+                    &mut oks[k],
+                    &mut others[k],
+                    t.count,
+                    k as u8,
+                    p,
+                    sent,
+                    told_oks,
+                    told_others,
+                );
+                let later = w.notes;
+                notes[k] = later;
+                answer.accepted = w.accepted;
+                answer.rejected = w.rejected;
             }
         }
         to += write_answer(output, to, next, answer);
         next += 1;
-        if is_full(room - to, next) {
-            return stop(answer, at, to, next, t);
-        }
         r = read_brief(&input[at..end]);
         let size = r.next;
-        if size == 0 {
-            return stop(answer, at, to, next, t);
+        if is_over(room - to, next, size) {
+            return stop(
+                answer,
+                at,
+                to,
+                next,
+                t,
+                heads,
+                based,
+                news,
+                held_stamps,
+                held_values,
+                notes,
+                oks,
+                others,
+            );
         }
         if r.code == 1 {
             stamps = read_stamps(&input[at..end]);

@@ -12,3 +12,4 @@ pub mod Said
 pub mod MarkKinds
 pub mod After
 pub mod Shapes
+pub mod Together

@@ -5,11 +5,12 @@ use Prim.Native.Nat.{ℕ, _<_, _≤_}
 use native.Mathlib.Omega.{arith}
 use lib.ListN.{length, set, List·getD-eq-default}
 use lib.Seq.{set-out}
-use Rattle.vote.specs.Data.{noVote, voteAt, withVotes}
-use Rattle.vote.specs.Verdicts.{noted, withVerdict}
+use Rattle.vote.specs.Data.{noVote, voteAt}
+use Rattle.vote.specs.Verdicts.{withVerdict}
+use Rattle.vote.specs.Notes.{notesNoted}
 use Rattle.vote.specs.Voting.{markPut, withMark}
 use Rattle.vote.specs.declared.data.Mark.{Mark}
-use Rattle.vote.specs.declared.data.Site.{Site}
+use Rattle.vote.specs.declared.data.Notes.{Notes}
 use Rattle.vote.specs.declared.data.Verdict.{Verdict}
 use Rattle.vote.specs.declared.data.Vote.{Vote}
 
@@ -25,11 +26,11 @@ marks-out votes {at} {p} m l e h = sym (set-out votes p (withMark m (voteAt vote
 pub marks-in : (votes : List Vote) {at p : ℕ} (m : Mark) → at ≡ p → set votes at (withMark m (voteAt votes at)) ≡ markPut votes p m
 marks-in votes m e = rw e
 
-module _ (s : Site) {at p : ℕ} where
-  pub notes-out : (d : Verdict) → length (s .votes) ≡ 16 → at ≡ p → 16 ≤ at → s ≡ noted s p d
-  unfolding noted
-  notes-out d l e h = rw (set-out (s .votes) p (withVerdict d (voteAt (s .votes) p)) (omega arith))
+module _ (k : Notes) {at p : ℕ} where
+  pub notes-out : (d : Verdict) → length (k .votes) ≡ 16 → at ≡ p → 16 ≤ at → k ≡ notesNoted k p d
+  unfolding notesNoted
+  notes-out d l e h = rw (set-out (k .votes) p (withVerdict d (voteAt (k .votes) p)) (omega arith))
 
-  pub notes-in : (d : Verdict) → at ≡ p → withVotes (set (s .votes) at (withVerdict d (voteAt (s .votes) at))) s ≡ noted s p d
-  unfolding noted
+  pub notes-in : (d : Verdict) → at ≡ p → _≡_ {A = Notes} (record { votes = set (k .votes) at (withVerdict d (voteAt (k .votes) at)); queue = k .queue; waiting = k .waiting }) (notesNoted k p d)
+  unfolding notesNoted
   notes-in d e = rw e

@@ -12,7 +12,6 @@ use Rattle.kit.specs.Range.{any, first}
 use Rattle.kit.proofs.Bools.{by-test, by-eq, by-lt}
 use Rattle.kit.proofs.Queues.{skip, skip-after, skip-in, skip-once, skip-back, without-at, length-without, without-none}
 use Rattle.kit.proofs.Ranges.{any-hit, none-of, first-le, first-hit, first-none}
-use Rattle.vote.specs.Data.{withQueue}
 use Rattle.vote.specs.Queue.{queuedAt, queueJoined, countJoined, joinsQueue, leavesQueue, placeInQueue}
 use Rattle.vote.specs.declared.data.Site.{Site}
 
@@ -33,10 +32,6 @@ module _ (queue : List ℕ) {n at : ℕ} (p : ℕ) (e : at ≡ n) where
 pub leaves-empty : (s : Site) (i : ℕ) → s .waiting ≡ 0 → s ≡ leavesQueue s i
 unfolding leavesQueue
 leaves-empty s i e = rw (eq-eqb (s .waiting) 0 e)
-
-pub leaves-some : (s : Site) (i : ℕ) {l : List ℕ} → (s .waiting ≡ 0 → ⊥) → l ≡ without 0 (s .queue) i → withQueue l (s .waiting - 1) s ≡ leavesQueue s i
-unfolding leavesQueue
-leaves-some s i ne e = rw (ne-eqb (s .waiting) 0 ne, e)
 
 -- ---- one more at the end
 

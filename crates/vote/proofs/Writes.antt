@@ -1,5 +1,5 @@
 -- Accepting a request writes its copy: the loop item by item, and what stands at each item afterwards.
-use mathlib.Core.Path.{_≡_, refl}
+use mathlib.Core.Path.{_≡_, refl, sym, ap, _∙_}
 use mathlib.Core.Bool.{Bool, true, false, cond, and-false}
 use mathlib.Core.List.{List}
 use Prim.Native.Nat.{ℕ, _+_, _<_, _≤_}
@@ -7,13 +7,14 @@ use native.Mathlib.Nat.{le-refl}
 use native.Mathlib.Omega.{arith}
 use borrow.Author.Tests.{lt-ltb, le-ltb, ltb-true}
 use lib.Dec.{ltb}
-use lib.IntN.{pos}
+use lib.IntN.{ℤ, pos}
 use lib.ListN.{length, getD, set}
 use Rattle.kit.proofs.Bools.{and-left, and-right, both-true, by-lt, of-cond}
+use Rattle.kit.specs.Lists.{changed}
 use Rattle.kit.proofs.Changes.{length-changed, changed-at, changed-none, changed-rest, changed-more, changed-keep}
 use Rattle.sets.specs.Sets.{member}
-use Rattle.vote.specs.Data.{withCopies, headOf, requestOf}
-use Rattle.vote.specs.Verdicts.{writesItem, newStamp, newValue, writtenUpTo, writtenSite, decided, ruled}
+use Rattle.vote.specs.Data.{headOf, requestOf}
+use Rattle.vote.specs.Verdicts.{writesItem, newStamp, newValue, stampsWritten, valuesWritten, writtenUpTo, writtenSite, decided, ruled}
 use Rattle.vote.specs.declared.data.Request.{Request}
 use Rattle.vote.specs.declared.data.Site.{Site}
 use Rattle.vote.specs.declared.data.Verdict.{Verdict}
@@ -21,31 +22,52 @@ use Rattle.vote.specs.declared.data.Verdict.the-variants as verdict
 
 -- ---- the loop
 
--- one item of w written where its own stamp says so
-abbrev pub itemWritten : Site → Request → ℕ → Site
-itemWritten w q i =
-    cond (writesItem (w .stamps) q i) (withCopies (set (w .stamps) i (q .stamp)) (set (w .values) i (getD (q .values) i (pos 0))) w) w
+-- of a copy with the stamps `held` and the values `old`, the first i items are written
+pub record Copied (held : List ℕ) (old : List ℤ) (q : Request) (i : ℕ) (stamps : List ℕ) (values : List ℤ) : Type 0 where
+  pub few : i ≤ 24
+  pub stamps-are : stamps ≡ changed i (newStamp held q) held
+  pub values-are : values ≡ changed i (newValue held q) old
 
-module _ (s : Site) (q : Request) where
-  pub written-none : s ≡ writtenUpTo 0 s q
-  unfolding writtenUpTo
-  written-none = simp changed-none
+module _ (held : List ℕ) (old : List ℤ) (q : Request) where
+  pub copied-none : Copied held old q 0 held old
+  copied-none = record {
+    few = omega arith;
+    stamps-are = sym (changed-none (newStamp held q) held);
+    values-are = sym (changed-none (newValue held q) old);
+  }
 
   -- an item that is not passed yet has the stamp that it had
-  writes-same : (i : ℕ) → writesItem (writtenUpTo i s q .stamps) q i ≡ writesItem (s .stamps) q i
-  unfolding writtenUpTo writesItem
-  writes-same i = rw (changed-rest i (newStamp (s .stamps) q) (s .stamps) 0 i (le-refl i))
+  writes-same : (i : ℕ) → writesItem (changed i (newStamp held q) held) q i ≡ writesItem held q i
+  unfolding writesItem
+  writes-same i = rw (changed-rest i (newStamp held q) held 0 i (le-refl i))
 
-  more : (i : ℕ) (b : Bool) → writesItem (s .stamps) q i ≡ b → itemWritten (writtenUpTo i s q) q i ≡ writtenUpTo (i + 1) s q
-  unfolding writtenUpTo
-  more i true e =
-      rw (writes-same i, e, changed-more i (newStamp (s .stamps) q) (s .stamps) 0, changed-more i (newValue (s .stamps) q) (s .values) (pos 0), e)
-  more i false e =
-      rw (writes-same i, e, changed-keep i (newStamp (s .stamps) q) (s .stamps) 0 (rw e), changed-keep i (newValue (s .stamps) q) (s .values) (pos 0) (rw e))
+  more-stamps : (i : ℕ) (b : Bool) → writesItem held q i ≡ b → cond b (set (changed i (newStamp held q) held) i (q .stamp)) (changed i (newStamp held q) held) ≡ changed (i + 1) (newStamp held q) held
+  more-stamps i true e = rw (changed-more i (newStamp held q) held 0, e)
+  more-stamps i false e = rw (changed-keep i (newStamp held q) held 0 (rw e))
 
-  -- a turn of the loop: v is what it made of w
-  pub written-more : (i : ℕ) {w v : Site} → w ≡ writtenUpTo i s q → v ≡ itemWritten w q i → v ≡ writtenUpTo (i + 1) s q
-  written-more i {w} {v} e t = rw (t, e) (more i (writesItem (s .stamps) q i) refl)
+  more-values
+      : (i : ℕ) (b : Bool) → writesItem held q i ≡ b
+      → cond b (set (changed i (newValue held q) old) i (getD (q .values) i (pos 0))) (changed i (newValue held q) old) ≡ changed (i + 1) (newValue held q) old
+  more-values i true e = rw (changed-more i (newValue held q) old (pos 0), e)
+  more-values i false e = rw (changed-keep i (newValue held q) old (pos 0) (rw e))
+
+module _ {held : List ℕ} {old : List ℤ} {q : Request} {i : ℕ} {w : List ℕ} {x : List ℤ} (k : Copied held old q i w x) where
+  -- a turn of the loop: t and v are what it made of w and x
+  pub copied-more
+      : (b : Bool) {t : List ℕ} {v : List ℤ} → i < 24 → writesItem w q i ≡ b → t ≡ cond b (set w i (q .stamp)) w
+      → v ≡ cond b (set x i (getD (q .values) i (pos 0))) x → Copied held old q (i + 1) t v
+  copied-more b {t} {v} h e f g =
+      let same : writesItem held q i ≡ b = sym (writes-same held old q i) ∙ ap (λ (l : List ℕ). writesItem l q i) (sym (k .stamps-are)) ∙ e in record {
+        few = omega arith;
+        stamps-are = f ∙ rw (k .stamps-are) (more-stamps held old q i b same);
+        values-are = g ∙ rw (k .values-are) (more-values held old q i b same);
+      }
+
+  pub copied-all : 24 ≤ i → (w ≡ stampsWritten held q) × (x ≡ valuesWritten held q old)
+  unfolding stampsWritten valuesWritten
+  copied-all h =
+      let e : i ≡ 24 = omega (arith, k .few) in
+      (k .stamps-are ∙ ap (λ (n : ℕ). changed n (newStamp held q) held) e, k .values-are ∙ ap (λ (n : ℕ). changed n (newValue held q) old) e)
 
 -- ---- afterwards
 

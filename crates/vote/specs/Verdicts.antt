@@ -38,6 +38,24 @@ newStamp held q i old = cond (writesItem held q i) (q .stamp) old
 abbrev pub newValue : List ℕ → Request → ℕ → ℤ → ℤ
 newValue held q i old = cond (writesItem held q i) (getD (q .values) i (pos 0)) old
 
+-- the stamps of a copy, and its values, after it
+unfoldable pub stampsWritten : List ℕ → Request → List ℕ
+stampsWritten held q = changed 24 (newStamp held q) held
+
+unfoldable pub valuesWritten : List ℕ → Request → List ℤ → List ℤ
+valuesWritten held q values = changed 24 (newValue held q) values
+
+-- the same after a verdict on q, of which only an acceptance writes
+abbrev pub stampsRuled : Verdict → List ℕ → Request → List ℕ
+stampsRuled verdict.Open held q = held
+stampsRuled verdict.Accepted held q = stampsWritten held q
+stampsRuled verdict.Rejected held q = held
+
+abbrev pub valuesRuled : Verdict → List ℕ → Request → List ℤ → List ℤ
+valuesRuled verdict.Open held q values = values
+valuesRuled verdict.Accepted held q values = valuesWritten held q values
+valuesRuled verdict.Rejected held q values = values
+
 -- the site with the first n items of its copy written
 unfoldable pub writtenUpTo : ℕ → Site → Request → Site
 writtenUpTo n s q = withCopies (changed n (newStamp (s .stamps) q) (s .stamps)) (changed n (newValue (s .stamps) q) (s .values)) s

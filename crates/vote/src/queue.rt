@@ -2,8 +2,9 @@
 ghost use mathlib.Core.Path.{_≡_};
 ghost use lib.Dec.{eqb};
 ghost use Rattle.kit.specs.Lists.{without};
-ghost use Rattle.vote.specs.Queue.{queuedAt, countJoined, queueJoined, leavesQueue, placeInQueue};
-use crate::data::Site;
+ghost use Rattle.vote.specs.Queue.{queuedAt, countJoined, queueJoined, placeInQueue};
+ghost use Rattle.vote.specs.Notes.{notesLeft};
+use crate::data::Notes;
 
 // The request place at place i of the queue; 0 behind its end.
 pub fn queued_at(queue: [u8; 16], i: usize) -> u8
@@ -45,18 +46,18 @@ pub fn move_up(mut queue: [u8; 16], i: usize) -> [u8; 16]
 }
 
 // The request at place i of the queue leaves it.
-pub fn leave_queue(mut s: Site, i: usize) -> Site
-    ensures { λ r. ⌜ r ≡ leavesQueue s i ⌝ }
+pub fn leave_queue(mut k: Notes, i: usize) -> Notes
+    ensures { λ r. ⌜ r ≡ notesLeft k i ⌝ }
 {
-    let n = s.waiting;
+    let n = k.waiting;
     if n == 0 {
-        return s;
+        return k;
     }
-    let queue = s.queue;
+    let queue = k.queue;
     let shorter = move_up(queue, i);
-    s.queue = shorter;
-    s.waiting = n - 1;
-    s
+    k.queue = shorter;
+    k.waiting = n - 1;
+    k
 }
 
 fn same_place(a: u8, b: u8) -> bool

@@ -2,11 +2,12 @@
 ghost use mathlib.Core.Path.{_≡_};
 ghost use mathlib.Core.List.{[]};
 ghost use Rattle.vote.specs.Data.{requestOf};
-ghost use Rattle.vote.specs.Verdicts.{verdictDue, writtenSite, released, decided, ruled};
+ghost use Rattle.vote.specs.Verdicts.{verdictDue, stampsWritten, valuesWritten, stampsRuled, valuesRuled};
+ghost use Rattle.vote.specs.Notes.{notesReleased, notesNoted, notesRuled};
 use crate::consider::is_deferred;
 use crate::data::Head;
 use crate::data::Mark;
-use crate::data::Site;
+use crate::data::Notes;
 use crate::data::Verdict;
 use crate::data::Vote;
 use crate::queue::leave_queue;
@@ -28,61 +29,80 @@ pub fn verdict_due<'a>(oks: &'a [bool; 112], others: &'a [bool; 112], n: u8, p: 
     Verdict::Open
 }
 
-// The site with each update item of q, whose new values are `news`, written whose copy stamp is smaller than q's.
-pub fn write_copy(mut s: Site, q: Head, news: &[i32; 24]) -> Site
-    ensures { λ r. ⌜ r ≡ writtenSite s (requestOf q [] (now (news .entry))) ⌝ }
+// Writes each update item of q, whose new values are `news`, whose copy stamp is smaller than q's.
+pub fn write_copy<'a>(
+    stamps: &'a mut [u64; 24],
+    values: &'a mut [i32; 24],
+    q: Head,
+    news: &'a [i32; 24],
+)
+    ensures stamps { λ _. ⌜ now (stamps .exit) ≡ stampsWritten (now (stamps .entry)) (requestOf q [] (now (news .entry))) ⌝ }
+    ensures values { λ _. ⌜ now (values .exit) ≡ valuesWritten (now (stamps .entry)) (requestOf q [] (now (news .entry))) (now (values .entry)) ⌝ }
 {
     let mut i: usize = 0;
     while i < 24 {
-        if sets::has(q.update, i) && s.stamps[i] < q.stamp {
-            s.stamps[i] = q.stamp;
-            s.values[i] = news[i];
+        if sets::has(q.update, i) && stamps[i] < q.stamp {
+            stamps[i] = q.stamp;
+            values[i] = news[i];
         }
         i += 1;
     }
-    s
+}
+
+// A verdict of acceptance writes the request q, whose new values are `news`.
+pub fn write_ruled<'a>(
+    v: Verdict,
+    stamps: &'a mut [u64; 24],
+    values: &'a mut [i32; 24],
+    q: Head,
+    news: &'a [i32; 24],
+)
+    ensures stamps { λ _. ⌜ now (stamps .exit) ≡ stampsRuled v (now (stamps .entry)) (requestOf q [] (now (news .entry))) ⌝ }
+    ensures values { λ _. ⌜ now (values .exit) ≡ valuesRuled v (now (stamps .entry)) (requestOf q [] (now (news .entry))) (now (values .entry)) ⌝ }
+{
+    match v {
+        Verdict::Open => {}
+        Verdict::Accepted => write_copy(stamps, values, q, news),
+        Verdict::Rejected => {}
+    }
 }
 
 // The request at place p leaves the queue, where it stands there, and its mark becomes none.
-pub fn release(mut s: Site, p: u8) -> Site
-    ensures { λ r. ⌜ r ≡ released s p ⌝ }
+pub fn release(mut k: Notes, p: u8) -> Notes
+    ensures { λ r. ⌜ r ≡ notesReleased k p ⌝ }
 {
-    let queue = s.queue;
-    let i = place_in_queue(queue, s.waiting, p);
-    let votes = s.votes;
+    let queue = k.queue;
+    let i = place_in_queue(queue, k.waiting, p);
+    let votes = k.votes;
     let unmarked = put_mark(votes, p, Mark::None);
-    s.votes = unmarked;
-    if i < kit::index(s.waiting) {
-        return leave_queue(s, i);
+    k.votes = unmarked;
+    if i < kit::index(k.waiting) {
+        return leave_queue(k, i);
     }
-    s
+    k
 }
 
-// The site with the verdict v on the request q, whose new values are `news`, at place p; accepted, it is written.
-pub fn decide(mut s: Site, q: Head, news: &[i32; 24], p: u8, v: Verdict) -> Site
-    ensures { λ r. ⌜ r ≡ decided s (requestOf q [] (now (news .entry))) p v ⌝ }
+// The verdict v on the request at place p is noted.
+pub fn note_verdict(mut k: Notes, p: u8, v: Verdict) -> Notes
+    ensures { λ r. ⌜ r ≡ notesNoted k p v ⌝ }
 {
     let at = kit::index(p);
     if at < 16 {
-        let old = s.votes[at];
-        s.votes[at] = Vote { verdict: v, ..old };
+        let old = k.votes[at];
+        k.votes[at] = Vote { verdict: v, ..old };
     }
-    match v {
-        Verdict::Open => s,
-        Verdict::Accepted => write_copy(s, q, news),
-        Verdict::Rejected => s,
-    }
+    k
 }
 
-// The request q, whose new values are `news`, at place p gets the verdict v; a deferred one leaves the queue and its mark becomes none.
-pub fn rule(s: Site, q: Head, news: &[i32; 24], p: u8, v: Verdict) -> Site
-    ensures { λ r. ⌜ r ≡ ruled s (requestOf q [] (now (news .entry))) p v ⌝ }
+// The request at place p gets the verdict v; a deferred one leaves the queue and its mark becomes none.
+pub fn rule(k: Notes, p: u8, v: Verdict) -> Notes
+    ensures { λ r. ⌜ r ≡ notesRuled k p v ⌝ }
 {
-    let votes = s.votes;
+    let votes = k.votes;
     let old = vote_at(votes, p);
     let m = old.mark;
     if is_deferred(m) {
-        return decide(release(s, p), q, news, p, v);
+        return note_verdict(release(k, p), p, v);
     }
-    decide(s, q, news, p, v)
+    note_verdict(k, p, v)
 }

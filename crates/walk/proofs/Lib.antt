@@ -1,7 +1,9 @@
 -- Laws of the walk, each family in a file of its own.
-mod Elements
-mod TakenApart
+pub mod Elements
+mod Stored
+pub mod TakenApart
 mod Turns
+mod Hearings
 pub mod Walks
 pub mod Inductions
 pub mod HearingInductions

@@ -1,21 +1,22 @@
 -- Requests taken apart: rows read and written, and that the parts put together again are the requests.
 use Prim.Native.Nat.{ℕ, zero, suc, _+_, _*_, _≤_, _<_}
+use mathlib.Core.Bool.{cond}
 use mathlib.Core.List.{List}
 use mathlib.Core.Path.{_≡_, refl, ap, sym, _∙_}
 use native.Mathlib.Numerals.{add-one}
 use native.Mathlib.Omega.{arith}
-use borrow.Author.Count.{below-more}
 use borrow.Author.Tests.{lt-ltb, le-ltb}
 use lib.IntN.{ℤ, pos}
 use lib.ListN.{length, getD, set, replicate, length-set, length-replicate, List·getD-eq-default}
 use lib.Seq.{getD-set-same, getD-set-other}
 use Rattle.kit.specs.Lists.{listed}
+use Rattle.sets.specs.Sets.{member}
 use Rattle.kit.proofs.Bools.{by-eq, by-lt}
-use Rattle.kit.proofs.Listings.{Filled, filled-put, filled-end, listed-at, listed-same, listed-of}
+use Rattle.kit.proofs.Listings.{Filled, filled-put, filled-end, length-listed, listed-at, listed-same, listed-of}
 use Rattle.vote.specs.Data.{noHead, noRequest, headAt, headOf, headsOf, requestAt, requestIn, requestOf, blankRequest}
 use Rattle.vote.specs.declared.data.Head.{Head}
 use Rattle.vote.specs.declared.data.Request.{Request}
-use Rattle.walk.specs.Parts.{rowItem, rowAt, rowUpTo, withRow, requestsFrom}
+use Rattle.walk.specs.Parts.{rowItem, rowAt, rowUpTo, withRow, storedRow, rowsUpTo, requestsFrom, basedOf, newsOf}
 
 -- ---- a row read: `at` is the place as an index
 
@@ -61,9 +62,28 @@ module _ {A : Type 0} (d : A) where
   unfolding rowUpTo
   row-more l p row i e v = rw (e, v, add-one i)
 
-  pub row-over : (l : List A) (p : ℕ) (row : List A) (i : ℕ) {w : List A} → w ≡ rowUpTo i d l p row → i ≤ 24 → 24 ≤ i → w ≡ withRow d l p row
+  row-in : (l : List A) (p : ℕ) (row : List A) → p < 16 → withRow d l p row ≡ rowUpTo 24 d l p row
   unfolding withRow
-  row-over l p row i e h k = let q : i ≡ 24 = omega arith in rw (← q) e
+  row-in l p row h = rw (lt-ltb p 16 h)
+
+  -- no row of no place
+  pub row-out : (l : List A) (p : ℕ) (row : List A) → 16 ≤ p → l ≡ withRow d l p row
+  unfolding withRow
+  row-out l p row h = rw (le-ltb p 16 h)
+
+  pub row-over : (l : List A) (p : ℕ) (row : List A) (i : ℕ) {w : List A} → w ≡ rowUpTo i d l p row → i ≤ 24 → 24 ≤ i → p < 16 → w ≡ withRow d l p row
+  row-over l p row i e h k b = let q : i ≡ 24 = omega arith in e ∙ ap (λ (n : ℕ). rowUpTo n d l p row) q ∙ sym (row-in l p row b)
+
+  -- an item of a row that is stored by a set
+  stored-at : (items : ℕ) (l : List A) (i : ℕ) → i < 24 → getD (storedRow d items l) i d ≡ cond (member items i) (getD l i d) d
+  unfolding storedRow
+  stored-at items l i h = listed-at 24 i (λ j. cond (member items j) (getD l j d) d) d h
+
+  -- one item more of it
+  pub stored-more
+      : (l : List A) (p items : ℕ) (new : List A) (i : ℕ) {w : List A} {x : A} → w ≡ rowUpTo i d l p (storedRow d items new) → i < 24
+      → x ≡ cond (member items i) (getD new i d) d → set w (24 * p + i) x ≡ rowUpTo (i + 1) d l p (storedRow d items new)
+  stored-more l p items new i e h v = row-more l p (storedRow d items new) i e (v ∙ sym (stored-at items new i h))
 
   -- what stands then: in the row of place p the new items, and in the others what stood there
 
@@ -86,23 +106,51 @@ module _ {A : Type 0} (d : A) where
       (λ ne. getD-set-other (rowUpTo n d l p row) (24 * p + n) (24 * p + u) _ d (λ q. ne (omega arith)) ∙ here n l p row u (omega (arith, ne)) b)
 
   pub length-row : (l : List A) (p : ℕ) (row : List A) → length (withRow d l p row) ≡ length l
-  unfolding withRow
-  length-row l p row = length-up-to 24 l p row
+  length-row l p row = by-lt p 16 (λ h. rw (row-in l p row h) (length-up-to 24 l p row)) (λ h. ap length (sym (row-out l p row h)))
 
   pub row-here : (l : List A) (p : ℕ) (row : List A) → length l ≡ 384 → p < 16 → length row ≡ 24 → rowAt d (withRow d l p row) p ≡ row
-  unfolding rowItem withRow
+  unfolding rowItem
   row-here l p row len h long =
-      row-is (withRow d l p row) p h
+      rw (row-in l p row h) (row-is (rowUpTo 24 d l p row) p h)
       ∙ listed-same 24 (rowItem d (rowUpTo 24 d l p row) p) (λ i. getD row i d) (λ i b. here 24 l p row i b (omega arith))
       ∙ sym (listed-of 24 row d long)
 
   pub row-there : (l : List A) (p : ℕ) (row : List A) (q : ℕ) → (q ≡ p → ⊥) → q < 16 → rowAt d (withRow d l p row) q ≡ rowAt d l q
-  unfolding rowItem withRow
+  unfolding rowItem
   row-there l p row q ne h =
-      row-is (withRow d l p row) q h
+      by-lt p 16
+      (λ b. rw (row-in l p row b)
+      (row-is (rowUpTo 24 d l p row) q h
       ∙ listed-same 24 (rowItem d (rowUpTo 24 d l p row) q) (rowItem d l q)
       (λ i b. there 24 l p row (24 * q + i) (λ u k e. ne (omega arith)))
-      ∙ sym (row-is l q h)
+      ∙ sym (row-is l q h)))
+      (λ b. ap (λ (w : List A). rowAt d w q) (sym (row-out l p row b)))
+
+  -- ---- all rows written
+
+  pub rows-none : (f : ℕ → List A) → replicate 384 d ≡ rowsUpTo d f 0
+  unfolding rowsUpTo
+  rows-none f = refl
+
+  pub rows-more : (f : ℕ → List A) (z : ℕ) {w v : List A} → w ≡ rowsUpTo d f z → v ≡ withRow d w z (f z) → v ≡ rowsUpTo d f (z + 1)
+  unfolding rowsUpTo
+  rows-more f z e h = rw (add-one z, ← e) h
+
+  pub rows-over : (f : ℕ → List A) (z : ℕ) {w : List A} → w ≡ rowsUpTo d f z → z ≤ 16 → 16 ≤ z → w ≡ rowsUpTo d f 16
+  rows-over f z e h k = let q : z ≡ 16 = omega arith in e ∙ ap (λ (n : ℕ). rowsUpTo d f n) q
+
+  length-rows : (f : ℕ → List A) (z : ℕ) → length (rowsUpTo d f z) ≡ 384
+  unfolding rowsUpTo
+  length-rows f zero = length-replicate 384 d
+  length-rows f (suc z) = length-row (rowsUpTo d f z) z (f z) ∙ length-rows f z
+
+  -- each is where it belongs
+  rows-at : (f : ℕ → List A) (z p : ℕ) → z ≤ 16 → p < z → length (f p) ≡ 24 → rowAt d (rowsUpTo d f z) p ≡ f p
+  unfolding rowsUpTo
+  rows-at f zero p h b long = absurd (let x : ⊥ = omega arith in x)
+  rows-at f (suc z) p h b long =
+      by-eq p z (λ e. rw (← e) (row-here (rowsUpTo d f p) p (f p) (length-rows f p) (omega arith) long))
+      (λ ne. row-there (rowsUpTo d f z) z (f z) p ne (omega arith) ∙ rows-at f z p (omega arith) (omega (arith, ne)) long)
 
 -- ---- the requests from their parts
 
@@ -111,6 +159,10 @@ module _ (heads : List Head) (based : List ℕ) (news : List ℤ) where
   pub part-at : (p : ℕ) → p < 16 → requestAt (requestsFrom heads based news) p ≡ requestOf (headAt heads p) (rowAt 0 based p) (rowAt (pos 0) news p)
   unfolding requestsFrom
   part-at p h = listed-at 16 p (λ k. requestOf (headAt heads k) (rowAt 0 based k) (rowAt (pos 0) news k)) noRequest h
+
+  pub length-parts : length (requestsFrom heads based news) ≡ 16
+  unfolding requestsFrom
+  length-parts = length-listed 16 (λ p. requestOf (headAt heads p) (rowAt 0 based p) (rowAt (pos 0) news p))
 
   module _ (few : length heads ≡ 16) where
     -- of a place above 15 there is none
@@ -129,48 +181,64 @@ module _ (heads : List Head) (based : List ℕ) (news : List ℤ) where
         listed-same 16 (λ j. headOf (requestAt (requestsFrom heads based news) j)) (λ j. headAt heads j) (λ j h. ap headOf (part-at j h))
         ∙ sym (listed-of 16 heads noHead few)
 
--- ---- taking them apart: of the first z places the parts stand in their places
+-- the list of them filled from the front
+module _ (heads : List Head) (based : List ℕ) (news : List ℤ) where
+  abbrev pub partOf : ℕ → Request
+  partOf p = requestOf (headAt heads p) (rowAt 0 based p) (rowAt (pos 0) news p)
 
-pub record Taken (rs : List Request) (z : ℕ) (heads : List Head) (based : List ℕ) (news : List ℤ) : Type 0 where
-  pub in-range : z ≤ 16
-  pub heads-long : length heads ≡ 16
-  pub based-long : length based ≡ 384
-  pub news-long : length news ≡ 384
-  pub same : (p : ℕ) → p < z → requestOf (headAt heads p) (rowAt 0 based p) (rowAt (pos 0) news p) ≡ requestAt rs p
+  pub parts-more : (d : Request) {at i : ℕ} {q : Request} (r : List Request) → at ≡ i → i < 16 → q ≡ partOf i → Filled d 16 partOf i r → Filled d 16 partOf (i + 1) (set r at q)
+  parts-more d {at} {i} {q} r e h v w = rw e (filled-put d 16 partOf i r q h v w)
 
-pub taken-none : (rs : List Request) → Taken rs 0 (replicate 16 noHead) (replicate 384 0) (replicate 384 (pos 0))
-taken-none rs = record {
-  in-range = omega arith;
-  heads-long = length-replicate 16 noHead;
-  based-long = length-replicate {A = ℕ} 384 0;
-  news-long = length-replicate 384 (pos 0);
-  same = λ p h. absurd (let z : ⊥ = omega arith in z);
-}
-
-module _ {rs : List Request} {z : ℕ} {heads : List Head} {based : List ℕ} {news : List ℤ} (k : Taken rs z heads based news) where
-  -- one more
-  pub taken-more
-      : (q : Request) {b : List ℕ} {v : List ℤ} → z < 16 → q ≡ requestAt rs z → length (q .stamps) ≡ 24 → length (q .values) ≡ 24
-      → b ≡ withRow 0 based z (q .stamps) → v ≡ withRow (pos 0) news z (q .values) → Taken rs (z + 1) (set heads z (headOf q)) b v
-  taken-more q h e ls lv eb ev = rw (eb, ev) (record {
-    in-range = omega arith;
-    heads-long = length-set heads z (headOf q) ∙ k .heads-long;
-    based-long = length-row 0 based z (q .stamps) ∙ k .based-long;
-    news-long = length-row (pos 0) news z (q .values) ∙ k .news-long;
-    same =
-        below-more
-        (λ (p : ℕ). requestOf (headAt (set heads z (headOf q)) p) (rowAt 0 (withRow 0 based z (q .stamps)) p) (rowAt (pos 0) (withRow (pos 0) news z (q .values)) p) ≡ requestAt rs p)
-        z
-        (λ p l. let ne : p ≡ z → ⊥ = λ x. omega arith in
-        rw (getD-set-other heads z p (headOf q) noHead ne, row-there 0 based z (q .stamps) p ne (omega arith), row-there (pos 0) news z (q .values) p ne (omega arith))
-        (k .same p l))
-        (rw (getD-set-same heads z (headOf q) noHead (omega (arith, k .heads-long)), row-here 0 based z (q .stamps) (k .based-long) h ls, row-here (pos 0) news z (q .values) (k .news-long) h lv)
-        e);
-  })
-
-  -- all: the parts put together again are the requests
-  pub taken-all : length rs ≡ 16 → 16 ≤ z → requestsFrom heads based news ≡ rs
+  pub parts-over : (d : Request) (i : ℕ) (r : List Request) → 16 ≤ i → Filled d 16 partOf i r → r ≡ requestsFrom heads based news
   unfolding requestsFrom
-  taken-all long h =
-      listed-same 16 (λ p. requestOf (headAt heads p) (rowAt 0 based p) (rowAt (pos 0) news p)) (λ p. requestAt rs p) (λ p l. k .same p (omega arith))
-      ∙ sym (listed-of 16 rs noRequest long)
+  parts-over d i r h w = filled-end d 16 partOf i r h w
+
+-- requests taken apart and put together again are the same
+pub taken-apart
+    : (rs : List Request) → length rs ≡ 16
+    → ((p : ℕ) → p < 16 → (length (requestAt rs p .stamps) ≡ 24) × (length (requestAt rs p .values) ≡ 24))
+    → requestsFrom (headsOf rs) (basedOf rs) (newsOf rs) ≡ rs
+unfolding requestsFrom headsOf basedOf newsOf
+taken-apart rs few long =
+    listed-same 16 (λ p. requestOf (headAt (headsOf rs) p) (rowAt 0 (basedOf rs) p) (rowAt (pos 0) (newsOf rs) p)) (λ p. requestAt rs p)
+    (λ p h. rw (
+      listed-at 16 p (λ j. headOf (requestAt rs j)) noHead h,
+      rows-at 0 (λ z. requestAt rs z .stamps) 16 p (omega arith) h (long p h .0),
+      rows-at (pos 0) (λ z. requestAt rs z .values) 16 p (omega arith) h (long p h .1),
+    ))
+    ∙ sym (listed-of 16 rs noRequest few)
+
+-- one head and its rows anew are one request anew
+pub parts-set
+    : (heads : List Head) (based : List ℕ) (news : List ℤ) (i : ℕ) (h : Head) (bs : List ℕ) (vs : List ℤ) → i < 16 → length heads ≡ 16 → length bs ≡ 24
+    → length vs ≡ 24 → length based ≡ 384 → length news ≡ 384
+    → requestsFrom (set heads i h) (withRow 0 based i bs) (withRow (pos 0) news i vs) ≡ set (requestsFrom heads based news) i (requestOf h bs vs)
+unfolding requestsFrom
+parts-set heads based news i h bs vs b few lb lv l384 m384 =
+    listed-same 16 (λ p. requestOf (headAt (set heads i h) p) (rowAt 0 (withRow 0 based i bs) p) (rowAt (pos 0) (withRow (pos 0) news i vs) p))
+    (λ p. requestAt (set (requestsFrom heads based news) i (requestOf h bs vs)) p)
+    (λ p k. by-eq p i
+    (λ e. rw (
+      e,
+      getD-set-same heads i h noHead (omega arith),
+      row-here 0 based i bs l384 b lb,
+      row-here (pos 0) news i vs m384 b lv,
+      getD-set-same (requestsFrom heads based news) i (requestOf h bs vs) noRequest (rw (length-parts heads based news) b),
+    ))
+    (λ ne. rw (
+      getD-set-other heads i p h noHead ne,
+      row-there 0 based i bs p ne k,
+      row-there (pos 0) news i vs p ne k,
+      getD-set-other (requestsFrom heads based news) i p (requestOf h bs vs) noRequest ne,
+      part-at heads based news p k,
+    )))
+    ∙ sym (listed-of 16 (set (requestsFrom heads based news) i (requestOf h bs vs)) noRequest (length-set (requestsFrom heads based news) i (requestOf h bs vs) ∙ length-parts heads based news))
+
+-- how long the rows are
+pub length-based : (rs : List Request) → length (basedOf rs) ≡ 384
+unfolding basedOf
+length-based rs = length-rows 0 (λ z. requestAt rs z .stamps) 16
+
+pub length-news : (rs : List Request) → length (newsOf rs) ≡ 384
+unfolding newsOf
+length-news rs = length-rows (pos 0) (λ z. requestAt rs z .values) 16

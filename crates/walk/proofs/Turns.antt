@@ -3,27 +3,31 @@
 use Prim.Native.Nat.{ℕ, _+_, _-_, _≤_, _<_}
 use mathlib.Core.Bool.{Bool, true, false, not}
 use mathlib.Core.List.{List, []}
-use mathlib.Core.Path.{_≡_, ap, sym, _∙_}
+use mathlib.Core.Path.{_≡_, refl, ap, sym, _∙_}
 use native.Mathlib.Omega.{arith}
 use borrow.Author.Tests.{not-true, not-false}
 use lib.IntN.{ℤ, pos}
 use lib.ListN.{length}
 use Rattle.vote.specs.Consider.{considered, markOf, defers}
-use Rattle.vote.specs.Data.{isOpen, headAt, requestIn, requestOf}
-use Rattle.vote.specs.Verdicts.{verdictDue, ruled}
+use Rattle.vote.specs.Data.{isOpen, headAt, headsOf, noRequest, requestIn, requestOf}
+use Rattle.vote.specs.Notes.{siteOf, notesMarked, oksVoted, othersVoted, notesLeft, notesRuled}
+use Rattle.vote.specs.Verdicts.{verdictDue, stampsRuled, valuesRuled, ruled}
 use Rattle.vote.specs.Voting.{votedFromQueue}
 use Rattle.vote.specs.declared.consider.Outcome.{Outcome}
 use Rattle.vote.specs.declared.data.Head.{Head}
 use Rattle.vote.specs.declared.data.Mark.{Mark}
+use Rattle.vote.specs.declared.data.Notes.{Notes}
 use Rattle.vote.specs.declared.data.Request.{Request}
 use Rattle.vote.specs.declared.data.Site.{Site}
 use Rattle.vote.specs.declared.data.Verdict.{Verdict}
 use Rattle.vote.specs.declared.data.Verdict.the-variants as verdict
+use Rattle.vote.specs.declared.data.Vote.{Vote}
 use Rattle.vote.proofs.Considering.{considered-parts}
+use Rattle.vote.proofs.Together.{voted-of, left-of, ruled-of}
 use Rattle.vote.proofs.Writes.{ruled-by}
 use Rattle.walk.specs.Parts.{rowAt, requestsFrom}
-use Rattle.walk.specs.Walking.{queued, outcomeAt, votedAt, dueAt, walked, resolved, answerOf, accepts, rejects, acceptsOf, rejectsOf}
-use Rattle.walk.specs.declared.walking.Settled.{Settled}
+use Rattle.walk.specs.Walking.{queued, outcomeAt, votedAt, dueAt, walked, resolved, Settled, answerOf, left, accepts, rejects, acceptsOf, rejectsOf}
+use Rattle.walk.specs.declared.walking.Settled as code
 use Rattle.walk.proofs.TakenApart.{part-in, part-heads}
 use Rattle.walk.proofs.Walks.{fewer-voted, fewer-ruled, few-verdicts, walk-ends, walk-keeps, walk-votes, walk-rules}
 
@@ -36,18 +40,24 @@ pub record Turn (me n : ℕ) (rs : List Request) (s : Site) (i p : ℕ) (o : Out
   pub outcome : o ≡ outcomeAt me n rs s i
   pub answer : answerOf (walked me n rs s i) ≡ a
 
--- with the requests taken apart
+-- with the requests taken apart: what comes of considering one
+pub outcome-is
+    : (heads : List Head) (based : List ℕ) (news : List ℤ) (votes : List Vote) (st : List ℕ) (p : ℕ) {o : Outcome} {q : Head} {row : List ℕ}
+    → length heads ≡ 16 → q ≡ headAt heads p → row ≡ rowAt 0 based p → o ≡ considered heads votes st (requestOf q row [])
+    → o ≡ considered (headsOf (requestsFrom heads based news)) votes st (requestIn (requestsFrom heads based news) p)
+outcome-is heads based news votes st p {o} {q} {row} few hq hr ho =
+    rw (part-heads heads based news few, part-in heads based news few p, ← hq, ← hr)
+    (ho ∙ considered-parts heads votes st (requestOf q row (rowAt (pos 0) news p)) [])
+
 pub turn-is
     : (me n : ℕ) (heads : List Head) (based : List ℕ) (news : List ℤ) (s : Site) (i p : ℕ) (o : Outcome) {q : Head} {row : List ℕ} {w : ℕ} {a : Settled}
     → length heads ≡ 16 → i < w → w ≡ s .waiting → p ≡ queued s i → q ≡ headAt heads p → row ≡ rowAt 0 based p
     → o ≡ considered heads (s .votes) (s .stamps) (requestOf q row []) → answerOf (walked me n (requestsFrom heads based news) s i) ≡ a
     → Turn me n (requestsFrom heads based news) s i p o a
-turn-is me n heads based news s i p o {q} {row} few h hw hp hq hr ho e = record {
+turn-is me n heads based news s i p o few h hw hp hq hr ho e = record {
   inside = rw hw at h;
   place = hp;
-  outcome =
-      rw (part-heads heads based news few, part-in heads based news few (queued s i), ← hp, ← hq, ← hr)
-      (ho ∙ considered-parts heads (s .votes) (s .stamps) (requestOf q row (rowAt (pos 0) news p)) []);
+  outcome = rw (← hp) (outcome-is heads based news (s .votes) (s .stamps) p few hq hr ho);
   answer = e;
 }
 
@@ -83,17 +93,42 @@ module _ {me n : ℕ} {rs : List Request} {s : Site} {i p : ℕ} {o : Outcome} {
           hr ∙ rw (due-is, voted-is, k .place)
           (ap answerOf (sym (walk-rules me n rs s i (k .inside) (says hd votes) (open-is (not-true t op)))) ∙ k .answer)
 
--- the queue is passed
-pub end-turn
-    : (me n : ℕ) (rs : List Request) (s : Site) (i : ℕ) {w : ℕ} {a : Settled} → answerOf (walked me n rs s i) ≡ a → w ≤ i → w ≡ s .waiting
-    → _≡_ {A = Settled} (record { site = s; accepted = 0; rejected = 0 }) a
-unfolding accepts rejects
-end-turn me n rs s i e h hw = ap answerOf (sym (walk-ends me n rs s i (rw hw at h))) ∙ e
+-- ---- the site put together of its parts
 
--- ---- the site after a vote, and after a verdict
+module _ (up : Bool) (last : ℕ) (st : List ℕ) (va : List ℤ) (k : Notes) (oks others : List Bool) where
+  -- one that votes leaves the queue
+  pub voted-parts
+      : (me i p : ℕ) (m : Mark) {l u : Notes} {o t : List Bool} → l ≡ notesLeft k i → u ≡ notesMarked l p m → o ≡ oksVoted me oks p m → t ≡ othersVoted me others p m
+      → siteOf up last st va u o t ≡ votedFromQueue me (siteOf up last st va k oks others) i p m
+  unfolding votedFromQueue
+  voted-parts me i p m hl hu ho ht =
+      rw (hu, hl, ho, ht, left-of up last st va k oks others i) (sym (voted-of up last st va (notesLeft k i) oks others me p m))
 
-pub voted-fewer : (me : ℕ) (s : Site) (i p : ℕ) (m : Mark) {u : Site} → u ≡ votedFromQueue me s i p m → u .waiting ≡ s .waiting - 1
-voted-fewer me s i p m hu = rw hu (fewer-voted me s i p m)
+  -- a verdict
+  pub ruled-parts
+      : (q : Request) (p : ℕ) (d : Verdict) {u : Notes} {ts : List ℕ} {vs : List ℤ} → u ≡ notesRuled k p d → ts ≡ stampsRuled d st q → vs ≡ valuesRuled d st q va
+      → siteOf up last ts vs u oks others ≡ ruled (siteOf up last st va k oks others) q p d
+  ruled-parts q p d hu ht hv = rw (hu, ht, hv) (sym (ruled-of up last st va k oks others q p d))
+
+  -- the queue is passed
+  pub end-turn
+      : (me n : ℕ) (rs : List Request) (i : ℕ) {w : ℕ} {r : code.Settled} {a : Settled} → answerOf (walked me n rs (siteOf up last st va k oks others) i) ≡ a → w ≤ i
+      → w ≡ k .waiting → r ≡ record { notes = k; accepted = 0; rejected = 0 } → left up last r st va oks others ≡ a
+  unfolding accepts rejects
+  end-turn me n rs i e h hw hr = rw hr (ap answerOf (sym (walk-ends me n rs (siteOf up last st va k oks others) i (rw hw at h))) ∙ e)
+
+-- ---- how many wait after a vote, and after a verdict
+
+module _ (k : Notes) where
+  pub voted-fewer : (i p : ℕ) (m : Mark) {l u : Notes} → l ≡ notesLeft k i → u ≡ notesMarked l p m → u .waiting ≡ k .waiting - 1
+  voted-fewer i p m hl hu =
+      ap (λ (s : Site). s .waiting) (voted-parts true 0 [] [] k [] [] 0 i p m hl hu refl refl) ∙ fewer-voted 0 (siteOf true 0 [] [] k [] []) i p m
+
+  pub ruled-fewer : (p : ℕ) (d : Verdict) {u : Notes} → u ≡ notesRuled k p d → u .waiting ≤ k .waiting
+  ruled-fewer p d {u} hu =
+      let e : u .waiting ≡ ruled (siteOf true 0 [] [] k [] []) noRequest p d .waiting =
+      ap (λ (s : Site). s .waiting) (ruled-parts true 0 [] [] k [] [] noRequest p d hu refl refl) in
+      rw e (fewer-ruled (siteOf true 0 [] [] k [] []) noRequest p d)
 
 pub fewer-left : {w a b i : ℕ} → i < w → w ≡ a → b ≡ a - 1 → b - i < a - i
 fewer-left h e f = omega arith
@@ -101,25 +136,38 @@ fewer-left h e f = omega arith
 pub fewer-than : {a b : ℕ} → b ≡ a - 1 → b ≤ a
 fewer-than f = omega arith
 
-pub ruled-fewer : (s : Site) (q : Request) (p : ℕ) (d : Verdict) {u : Site} → u ≡ ruled s q p d → u .waiting ≤ s .waiting
-ruled-fewer s q p d hu = rw hu (fewer-ruled s q p d)
-
 -- ---- the verdict itself is counted
 
-pub count-turn
+count-turn
     : (me n : ℕ) (heads : List Head) (based : List ℕ) (news : List ℤ) (s : Site) (p : ℕ) (v : Verdict) (q : Head) (row : List ℤ) (u : Site) {r : Settled} {a b : ℕ}
     → length heads ≡ 16 → q ≡ headAt heads p → row ≡ rowAt (pos 0) news p → u ≡ ruled s (requestOf q [] row) p v
-    → r ≡ answerOf (walked me n (requestsFrom heads based news) u 0) → a ≡ acceptsOf v → b ≡ rejectsOf v
-    → _≡_ {A = Settled} (record { site = r .site; accepted = r .accepted + a; rejected = r .rejected + b })
-    (answerOf (resolved me n (requestsFrom heads based news) s p v))
+    → r ≡ answerOf (walked me n (requestsFrom heads based news) u 0) → a ≡ r .accepted + acceptsOf v → b ≡ r .rejected + rejectsOf v
+    → _≡_ {A = Settled} (record { site = r .site; accepted = a; rejected = b }) (answerOf (resolved me n (requestsFrom heads based news) s p v))
 unfolding accepts rejects
 count-turn me n heads based news s p v q row u few hq hw hu hr ha hb =
     let e : u ≡ ruled s (requestIn (requestsFrom heads based news) p) p v =
     rw (part-in heads based news few p, ← hq, ← hw) (hu ∙ ruled-by s (requestOf q (rowAt 0 based p) row) [] p v) in
     rw (ha, hb, hr, e)
 
-pub few-answers : (me n : ℕ) (rs : List Request) (s : Site) (i : ℕ) {r : Settled} → r ≡ answerOf (walked me n rs s i) → r .accepted + r .rejected ≤ s .waiting
-few-answers me n rs s i e = rw e (few-verdicts me n rs s i)
+-- with the site in its parts: the code's answer r, and what it left of what is lent
+module _ {r : code.Settled} {ts : List ℕ} {vs : List ℤ} {os xs : List Bool} where
+  pub count-parts
+      : (up : Bool) (last me n : ℕ) (heads : List Head) (based : List ℕ) (news : List ℤ) (k : Notes) (st : List ℕ) (va : List ℤ) (oks others : List Bool) (p : ℕ) (v : Verdict) (q : Head) (row : List ℤ)
+      {u : Notes} {su : List ℕ} {vu : List ℤ} {a b : ℕ}
+      → length heads ≡ 16 → q ≡ headAt heads p → row ≡ rowAt (pos 0) news p → u ≡ notesRuled k p v → su ≡ stampsRuled v st (requestOf q [] row)
+      → vu ≡ valuesRuled v st (requestOf q [] row) va
+      → left up last r ts vs os xs ≡ answerOf (walked me n (requestsFrom heads based news) (siteOf up last su vu u oks others) 0)
+      → a ≡ r .accepted + acceptsOf v → b ≡ r .rejected + rejectsOf v
+      → left up last (record { notes = r .notes; accepted = a; rejected = b }) ts vs os xs
+      ≡ answerOf (resolved me n (requestsFrom heads based news) (siteOf up last st va k oks others) p v)
+  count-parts up last me n heads based news k st va oks others p v q row few hq hw hu hs hv hr ha hb =
+      count-turn me n heads based news (siteOf up last st va k oks others) p v q row _ few hq hw (ruled-parts up last st va k oks others (requestOf q [] row) p v hu hs hv) hr ha hb
+
+  -- it has no more verdicts than requests that waited
+  pub few-answers
+      : (me n : ℕ) (rs : List Request) (k : Notes) (st : List ℕ) (va : List ℤ) (oks others : List Bool)
+      → ((up : Bool) (last : ℕ) → left up last r ts vs os xs ≡ answerOf (walked me n rs (siteOf up last st va k oks others) 0)) → r .accepted + r .rejected ≤ k .waiting
+  few-answers me n rs k st va oks others hr = rw (ap (λ (x : Settled). x .accepted) (hr true 0), ap (λ (x : Settled). x .rejected) (hr true 0)) (few-verdicts me n rs (siteOf true 0 st va k oks others) 0)
 
 -- one verdict is one acceptance at most, and one rejection
 pub one-accepted : (v : Verdict) → acceptsOf v ≤ 1

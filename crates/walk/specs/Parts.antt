@@ -6,7 +6,8 @@ use lib.Dec.{ltb}
 use lib.IntN.{ℤ, pos}
 use lib.ListN.{getD, set, replicate}
 use Rattle.kit.specs.Lists.{listed}
-use Rattle.vote.specs.Data.{headAt, requestOf}
+use Rattle.sets.specs.Sets.{member}
+use Rattle.vote.specs.Data.{headAt, requestAt, requestOf}
 use Rattle.vote.specs.declared.data.Head.{Head}
 use Rattle.vote.specs.declared.data.Request.{Request}
 
@@ -23,10 +24,26 @@ unfoldable pub rowUpTo : {A : Type 0} → ℕ → A → List A → ℕ → List 
 rowUpTo zero d l p row = l
 rowUpTo (suc n) d l p row = set (rowUpTo n d l p row) (24 * p + n) (getD row n d)
 
--- with all 24
+-- with all 24, where p is one of the 16 places
 unfoldable pub withRow : {A : Type 0} → A → List A → ℕ → List A → List A
-withRow d l p row = rowUpTo 24 d l p row
+withRow d l p row = cond (ltb p 16) (rowUpTo 24 d l p row) l
+
+-- "Numbers given for other items are not looked at and are stored as 0."
+unfoldable pub storedRow : {A : Type 0} → A → ℕ → List A → List A
+storedRow d items l = listed 24 (λ i. cond (member items i) (getD l i d) d)
 
 -- the requests of these heads, base stamps and new values
 unfoldable pub requestsFrom : List Head → List ℕ → List ℤ → List Request
 requestsFrom heads based news = listed 16 (λ p. requestOf (headAt heads p) (rowAt 0 based p) (rowAt (pos 0) news p))
+
+-- the first z rows, which f gives, and blank ones
+unfoldable pub rowsUpTo : {A : Type 0} → A → (ℕ → List A) → ℕ → List A
+rowsUpTo d f zero = replicate 384 d
+rowsUpTo d f (suc z) = withRow d (rowsUpTo d f z) z (f z)
+
+-- the base stamps of these requests, and their new values
+unfoldable pub basedOf : List Request → List ℕ
+basedOf rs = rowsUpTo 0 (λ z. requestAt rs z .stamps) 16
+
+unfoldable pub newsOf : List Request → List ℤ
+newsOf rs = rowsUpTo (pos 0) (λ z. requestAt rs z .values) 16

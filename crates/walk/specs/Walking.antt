@@ -1,8 +1,10 @@
 -- "After each verdict at a site, its queue is considered again from the front. One that votes leaves the queue; one still deferred keeps its
 -- place; if a vote brings a verdict, the walk starts again from the front, so a verdict calls for a walk and a walk may bring a verdict."
 use Prim.Native.Nat.{ℕ, zero, suc, _+_, _-_}
-use mathlib.Core.Bool.{true, false}
+use mathlib.Core.Bool.{Bool, true, false}
 use mathlib.Core.List.{List, [], _∷_}
+use lib.IntN.{ℤ}
+use Rattle.vote.specs.Notes.{siteOf}
 use Rattle.vote.specs.Consider.{considered, markOf, defers}
 use Rattle.vote.specs.Data.{headsOf, isOpen, requestIn}
 use Rattle.vote.specs.Queue.{queuedAt}
@@ -14,7 +16,7 @@ use Rattle.vote.specs.declared.data.Request.{Request}
 use Rattle.vote.specs.declared.data.Site.{Site}
 use Rattle.vote.specs.declared.data.Verdict.{Verdict}
 use Rattle.vote.specs.declared.data.Verdict.the-variants as verdict
-use Rattle.walk.specs.declared.walking.Settled.{Settled}
+use Rattle.walk.specs.declared.walking.Settled as code
 
 -- what a site said: the request's place, its stamp, and the vote or the verdict
 pub data Said : Type 0 where
@@ -115,6 +117,16 @@ rejects [] = 0
 rejects (vote p t m ∷ l) = rejects l
 rejects (rule p t d ∷ l) = rejects l + rejectsOf d
 
--- the site and the two counts
+-- a site, and the two counts
+pub record Settled : Type 0 where
+  pub site : Site
+  pub accepted : ℕ
+  pub rejected : ℕ
+
+-- those of a walk
 abbrev pub answerOf : Out → Settled
 answerOf o = record { site = o .site; accepted = accepts (o .log); rejected = rejects (o .log) }
+
+-- those that the code leaves: the site put together of its notes and of what is lent
+abbrev pub left : Bool → ℕ → code.Settled → List ℕ → List ℤ → List Bool → List Bool → Settled
+left up last r stamps values oks others = record { site = siteOf up last stamps values (r .notes) oks others; accepted = r .accepted; rejected = r .rejected }

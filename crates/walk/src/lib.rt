@@ -1,3 +1,4 @@
 // What one site does when verdicts fall: resolving and queue walking.
-mod parts;
+pub mod hearing;
+pub mod parts;
 pub mod walking;

@@ -37,4 +37,6 @@ tell-spec =
     (λ c. search needs)
     (λ c κs. search needs)
     (λ c κs. search needs)
-    (λ c. tell-done _ _ _ _ _ _ _ (c .before .before .before .before .before .before .before .before .before .before .before .before .before .before .before .before .is-site .ensures) (c .before .before .before .before .before .before .before .before .before .before .before .before .before .before .before .if1 .left) (c .before .before .before .before .before .before .before .before .before .before .before .before .before .before .is-site2 .ensures) (c .before .before .before .before .before .before .before .before .before .before .before .before .before .if2 .left) (c .before .before .before .before .before .before .before .before .before .before .before .before .if3 .left) (c .before .before .before .before .before .before .before .before .before .before .before .if4 .left) (c .before .before .before .before .before .before .before .before .before .vote-at .ensures) (c .before .before .before .before .before .before .before .before .has-word .ensures) (c .before .before .before .before .before .before .before .if5 .left) (c .before .before .before .before .before .before .if6 .left) (c .before .before .before .before .before .if7 .left) (small (c .before .before .before .before .before .before .before .before .before .before .before .before .before .before .before .before .before)) (c .before .before .before .before .give .ensures) (c .message-from .ensures)))
+    (λ c.
+    let b = c .before .before .before .before .before in
+    tell-done _ _ _ _ _ _ _ _ _ _ (b .before .before .before .before .before .before .before .is-site .ensures) (b .before .before .before .before .before .before .if1 .left) (b .before .before .before .before .before .is-site2 .ensures) (b .before .before .before .before .if2 .left) (b .before .before .before .if3 .left) (b .before .before .if4 .left) (b .before .vote-at .ensures) (b .has-word .ensures) (c .before .before .before .before .if5 .left) (c .before .before .before .if6 .left) (c .before .before .if7 .left) (small (b .before .before .before .before .before .before .before .before)) (c .before .give .ensures) (c .message-from .ensures)))

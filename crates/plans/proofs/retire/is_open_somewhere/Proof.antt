@@ -1,7 +1,7 @@
 -- `plans::retire::is_open_somewhere` meets its contract: a loop that returns at the first hit computes `any`.
 use Prim.Native.Nat.{_-_}
 use Rattle.kit.proofs.Loops.{Missed, somes}
-use Rattle.table.specs.Places.{noSite}
+use Rattle.vote.specs.Notes.{noNotes}
 use Rattle.vote.specs.Data.{isOpen, voteAt}
 use lib.Dec.{ltb}
 use lib.ListN.{getD}
@@ -11,10 +11,10 @@ use Rattle.plans.proofs.retire.is_open_somewhere.Statement.{statement}
 use Rattle.plans.proofs.retire.is_open_somewhere.Tie as tie
 
 abbrev Inv-loop : tie.InvT-loop
-Inv-loop n p sites k₀ k = Missed 7 (λ j. ltb j n && isOpen (voteAt (getD sites j noSite .votes) p .verdict)) k
+Inv-loop n p notes k₀ k = Missed 7 (λ j. ltb j n && isOpen (voteAt (getD notes j noNotes .votes) p .verdict)) k
 
 abbrev μ-loop : tie.MeasureT-loop
-μ-loop n p sites k₀ k = 7 - k
+μ-loop n p notes k₀ k = 7 - k
 
 pub is-open-somewhere-spec : {M : Type 1} → statement M
 is-open-somewhere-spec =

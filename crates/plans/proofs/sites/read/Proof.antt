@@ -2,7 +2,6 @@
 use Rattle.plans.proofs.AtSites.{read-3, read-4, read-16, read-0}
 use Rattle.plans.proofs.Digits.{widens}
 use borrow.Author.Needs.{needs, sfits-of}
-use borrow.Author.Needs.{needs}
 use Rattle.plans.proofs.sites.read.Statement.{statement}
 use Rattle.plans.proofs.sites.read.Tie as tie
 

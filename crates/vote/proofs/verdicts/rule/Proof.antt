@@ -4,21 +4,20 @@ use mathlib.Core.Bool.{Bool, true, false}
 use Prim.Native.Nat.{ℕ}
 use borrow.Author.Needs.{needs}
 use Rattle.vote.specs.Data.{isDeferred, voteAt}
-use Rattle.vote.specs.Verdicts.{released, decided, ruled}
-use Rattle.vote.specs.declared.data.Request.{Request}
-use Rattle.vote.specs.declared.data.Site.{Site}
+use Rattle.vote.specs.Notes.{notesReleased, notesNoted, notesRuled}
+use Rattle.vote.specs.declared.data.Notes.{Notes}
 use Rattle.vote.specs.declared.data.Verdict.{Verdict}
 use Rattle.vote.specs.declared.data.Vote.{Vote}
 use Rattle.vote.proofs.verdicts.rule.Statement.{statement}
 use Rattle.vote.proofs.verdicts.rule.Tie as tie
 
-module _ (s : Site) (q : Request) (p : ℕ) (d : Verdict) {old : Vote} {r : Bool} {u : Site} (vote : old ≡ voteAt (s .votes) p) (test : r ≡ isDeferred (old .mark)) where
-  rules-deferred : {t : Site} → r ≡ true → t ≡ released s p → u ≡ decided t q p d → u ≡ ruled s q p d
-  unfolding ruled
+module _ (k : Notes) (p : ℕ) (d : Verdict) {old : Vote} {r : Bool} {u : Notes} (vote : old ≡ voteAt (k .votes) p) (test : r ≡ isDeferred (old .mark)) where
+  rules-deferred : {t : Notes} → r ≡ true → t ≡ notesReleased k p → u ≡ notesNoted t p d → u ≡ notesRuled k p d
+  unfolding notesRuled
   rules-deferred y f e = rw (← vote, ← test, y, ← f) e
 
-  rules-other : r ≡ false → u ≡ decided s q p d → u ≡ ruled s q p d
-  unfolding ruled
+  rules-other : r ≡ false → u ≡ notesNoted k p d → u ≡ notesRuled k p d
+  unfolding notesRuled
   rules-other y e = rw (← vote, ← test, y) e
 
 pub rule-spec : {M : Type 1} → statement M

@@ -4,23 +4,36 @@ use mathlib.Core.Bool.{Bool, true, false}
 use mathlib.Core.List.{List}
 use Prim.Native.Nat.{ℕ}
 use borrow.Author.Needs.{needs}
-use Rattle.vote.specs.Data.{isOk, withKnown, withVotes}
+use Rattle.vote.specs.Data.{isOk}
+use Rattle.vote.specs.Notes.{notesMarked, oksVoted, othersVoted}
 use Rattle.vote.specs.Voters.{onlyVoter, joinVoters}
-use Rattle.vote.specs.Voting.{markPut, marked, countsItself, voted}
+use Rattle.vote.specs.Voting.{markPut}
 use Rattle.vote.specs.declared.data.Mark.{Mark}
-use Rattle.vote.specs.declared.data.Site.{Site}
+use Rattle.vote.specs.declared.data.Notes.{Notes}
 use Rattle.vote.specs.declared.data.Vote.{Vote}
 use Rattle.vote.proofs.voting.cast_vote.Statement.{statement}
 use Rattle.vote.proofs.voting.cast_vote.Tie as tie
 
-module _ (me : ℕ) (s : Site) (p : ℕ) (m : Mark) {l : List Vote} {own more : List Bool} {r : Bool} (mark : l ≡ markPut (s .votes) p m) (mine : own ≡ onlyVoter me) (ok : r ≡ isOk m) where
-  counts-ok : r ≡ true → more ≡ joinVoters (s .oks) p own → withKnown more (s .others) (withVotes l s) ≡ voted me s p m
-  unfolding voted countsItself marked
-  counts-ok y e = rw (e, mine, mark, ← ok, y)
+marks-notes : (k : Notes) (p : ℕ) (m : Mark) {l : List Vote} → l ≡ markPut (k .votes) p m → _≡_ {A = Notes} (record { votes = l; queue = k .queue; waiting = k .waiting }) (notesMarked k p m)
+unfolding notesMarked
+marks-notes k p m e = rw e
 
-  counts-other : r ≡ false → more ≡ joinVoters (s .others) p own → withKnown (s .oks) more (withVotes l s) ≡ voted me s p m
-  unfolding voted countsItself marked
-  counts-other y e = rw (e, mine, mark, ← ok, y)
+module _ (me : ℕ) (known : List Bool) (p : ℕ) (m : Mark) {r : Bool} (ok : r ≡ isOk m) where
+  joins-oks : {own more : List Bool} → r ≡ true → own ≡ onlyVoter me → more ≡ joinVoters known p own → more ≡ oksVoted me known p m
+  unfolding oksVoted
+  joins-oks y mine e = rw (e, mine, ← ok, y)
+
+  keeps-oks : r ≡ false → known ≡ oksVoted me known p m
+  unfolding oksVoted
+  keeps-oks y = rw (← ok, y)
+
+  joins-others : {own more : List Bool} → r ≡ false → own ≡ onlyVoter me → more ≡ joinVoters known p own → more ≡ othersVoted me known p m
+  unfolding othersVoted
+  joins-others y mine e = rw (e, mine, ← ok, y)
+
+  keeps-others : r ≡ true → known ≡ othersVoted me known p m
+  unfolding othersVoted
+  keeps-others y = rw (← ok, y)
 
 pub cast-vote-spec : {M : Type 1} → statement M
 cast-vote-spec =
@@ -30,6 +43,6 @@ cast-vote-spec =
     (λ c κs. search needs)
     (λ c κs. search needs)
     (λ c κs. search needs)
-    (λ c. search counts-ok)
+    (λ c. search (marks-notes, joins-oks, keeps-others))
     (λ c κs. search needs)
-    (λ c. search counts-other))
+    (λ c. search (marks-notes, keeps-oks, joins-others)))

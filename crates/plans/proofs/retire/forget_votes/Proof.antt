@@ -1,0 +1,33 @@
+-- `plans::retire::forget_votes` meets its contract: after each turn one site more has forgotten.
+use Prim.Native.Nat.{_-_}
+use Rattle.plans.proofs.Retiring.{notes-anywhere}
+use Rattle.plans.proofs.Turns.{Turned, turned-none, turned-more, turned-all}
+use Rattle.plans.specs.Changes.{notesForgotten}
+use Rattle.vote.specs.Notes.{noNotes}
+use borrow.Author.Needs.{needs}
+use native.Mathlib.Omega.{arith}
+use Rattle.plans.proofs.retire.forget_votes.Statement.{statement}
+use Rattle.plans.proofs.retire.forget_votes.Tie as tie
+
+abbrev Inv-loop : tie.InvT-loop
+Inv-loop p notes₀ k₀ notes k = Turned 7 (notesForgotten p) noNotes notes₀ k notes
+
+abbrev μ-loop : tie.MeasureT-loop
+μ-loop p notes₀ k₀ notes k = 7 - k
+
+pub forget-votes-spec : {M : Type 1} → statement M
+forget-votes-spec =
+    tie.close
+    (tie.spec
+    Inv-loop
+    μ-loop
+    (λ c. search turned-none)
+    (λ c. search needs)
+    (λ c. search needs)
+    (λ c κs. search needs)
+    (λ c. search needs)
+    (λ c. search needs)
+    (λ c. search needs)
+    (λ c. search needs)
+    (λ c. search (turned-more, notes-anywhere, arith))
+    (λ c. search (turned-all, arith)))

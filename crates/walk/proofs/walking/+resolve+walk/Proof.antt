@@ -1,0 +1,329 @@
+-- `walk::walking::resolve` and `walk` meet their contracts. A walk of w deferred requests measures 2 * w, a verdict before it one more; the
+-- loop's invariant is that the answer from here is the answer from the start; each way through a turn is a law of its own.
+use borrow.Author.Needs.{needs}
+use Prim.Native.Nat.{ℕ, _+_, _*_, _-_, _<_, _≤_}
+use mathlib.Core.Bool.{Bool}
+use mathlib.Core.Path.{_≡_}
+use native.Mathlib.Nat.{le-trans}
+use native.Mathlib.Omega.{arith}
+use lib.ListN.{length}
+use Rattle.kit.proofs.Listings.{length-mapped}
+use Rattle.vote.specs.Notes.{siteOf}
+use Rattle.vote.specs.Voting.{votedFromQueue}
+use Rattle.walk.specs.Parts.{requestsFrom}
+use Rattle.walk.specs.Walking.{walked, answerOf}
+use Rattle.walk.proofs.Turns.{Turn, turn-is, keep-turn, vote-turn, rule-turn, end-turn, voted-parts, voted-fewer, fewer-left, fewer-than, ruled-fewer, count-parts, few-answers, one-accepted, one-rejected}
+use borrow.Fn.Kinds.{In}
+use borrow.Fn.PlainCycle.{Measures, is, falls, and}
+use Rattle.walk.proofs.walking.resolve.Reads as resolve
+use Rattle.walk.proofs.walking.resolve.Kinds as resolve-kinds
+use Rattle.walk.proofs.walking.+resolve+walk.Lts-resolve as resolve-lts
+use Rattle.walk.proofs.walking.walk.Reads as walk
+use Rattle.walk.proofs.walking.walk.Kinds as walk-kinds
+use Rattle.walk.proofs.walking.+resolve+walk.Lts-walk as walk-lts
+use Rattle.kit.proofs.index.Reads as index-reads
+use Rattle.vote.proofs.consider.consider.Reads as consider-reads
+use Rattle.vote.proofs.consider.is_deferral.Reads as is-deferral-reads
+use Rattle.vote.proofs.consider.is_open.Reads as is-open-reads
+use Rattle.vote.proofs.consider.mark_of.Reads as mark-of-reads
+use Rattle.vote.proofs.queue.leave_queue.Reads as leave-queue-reads
+use Rattle.vote.proofs.queue.queued_at.Reads as queued-at-reads
+use Rattle.vote.proofs.verdicts.rule.Reads as rule-reads
+use Rattle.vote.proofs.verdicts.verdict_due.Reads as verdict-due-reads
+use Rattle.vote.proofs.verdicts.write_ruled.Reads as write-ruled-reads
+use Rattle.vote.proofs.voting.cast_vote.Reads as cast-vote-reads
+use Rattle.walk.proofs.parts.head_at.Reads as head-at-reads
+use Rattle.walk.proofs.parts.stamps_at.Reads as stamps-at-reads
+use Rattle.walk.proofs.parts.values_at.Reads as values-at-reads
+use Rattle.walk.proofs.walking.one_if_accepted.Reads as one-if-accepted-reads
+use Rattle.walk.proofs.walking.one_if_rejected.Reads as one-if-rejected-reads
+use Rattle.walk.proofs.walking.rest.Reads as rest-reads
+use Rattle.walk.proofs.walking.+resolve+walk.{statement}
+use Rattle.walk.proofs.walking.+resolve+walk.Tie.{close}
+
+abbrev μ-resolve : Measures 5 resolve-kinds.ps ℕ
+μ-resolve κs a = 2 * a .1 .1 .1 .0 .waiting + 1
+
+abbrev μ-walk : Measures 5 walk-kinds.ps ℕ
+μ-walk κs a = 2 * a .1 .1 .1 .0 .waiting
+
+abbrev resolve-at : ℕ → In 5 resolve-kinds.ps
+resolve-at t = and 5 resolve-kinds.ps (is 5 resolve-kinds.ps μ-resolve t) resolve.Pre
+
+abbrev resolve-below : ℕ → In 5 resolve-kinds.ps
+resolve-below t = and 5 resolve-kinds.ps (falls 5 resolve-kinds.ps _<_ μ-resolve t) resolve.Pre
+
+abbrev walk-at : ℕ → In 5 walk-kinds.ps
+walk-at t = and 5 walk-kinds.ps (is 5 walk-kinds.ps μ-walk t) walk.Pre
+
+abbrev walk-below : ℕ → In 5 walk-kinds.ps
+walk-below t = and 5 walk-kinds.ps (falls 5 walk-kinds.ps _<_ μ-walk t) walk.Pre
+
+-- what each is told of what it calls
+abbrev resolve-sees : ℕ → resolve-lts.Claims
+resolve-sees t = (
+  values-at-reads.Asked,
+  values-at-reads.Learnt,
+  rule-reads.Asked,
+  rule-reads.Learnt,
+  head-at-reads.Asked,
+  head-at-reads.Learnt,
+  write-ruled-reads.Asked,
+  write-ruled-reads.Learnt,
+  walk-below t,
+  walk.Post,
+  one-if-accepted-reads.Asked,
+  one-if-accepted-reads.Learnt,
+  one-if-rejected-reads.Asked,
+  one-if-rejected-reads.Learnt,
+)
+
+abbrev walk-sees : ℕ → walk-lts.Claims
+walk-sees t = (
+  index-reads.Asked,
+  index-reads.Learnt,
+  queued-at-reads.Asked,
+  queued-at-reads.Learnt,
+  stamps-at-reads.Asked,
+  stamps-at-reads.Learnt,
+  head-at-reads.Asked,
+  head-at-reads.Learnt,
+  consider-reads.Asked,
+  consider-reads.Learnt,
+  is-deferral-reads.Asked,
+  is-deferral-reads.Learnt,
+  leave-queue-reads.Asked,
+  leave-queue-reads.Learnt,
+  mark-of-reads.Asked,
+  mark-of-reads.Learnt,
+  cast-vote-reads.Asked,
+  cast-vote-reads.Learnt,
+  verdict-due-reads.Asked,
+  verdict-due-reads.Learnt,
+  is-open-reads.Asked,
+  is-open-reads.Learnt,
+  resolve-below t,
+  resolve.Post,
+  rest-reads.Asked,
+  rest-reads.Learnt,
+)
+
+-- its queue is counted by a byte, and there are 16 heads
+small : (t : ℕ) (c : resolve-lts.Start (resolve-sees t) (resolve-at t) resolve.Post) → c .args .notes .waiting < 256
+small t c = omega arith
+
+heads-long : (t : ℕ) (c : resolve-lts.Start (resolve-sees t) (resolve-at t) resolve.Post) → length (c .args .heads) ≡ 16
+heads-long t c = search (needs, length-mapped)
+
+resolve-values-at-requires : (t : ℕ) → resolve-lts.Need-values-at-requires (resolve-sees t) (resolve-at t) resolve.Post
+resolve-values-at-requires t c κs = search needs
+
+resolve-rule-requires : (t : ℕ) → resolve-lts.Need-rule-requires (resolve-sees t) (resolve-at t) resolve.Post
+resolve-rule-requires t c κs = search needs
+
+resolve-head-at-requires : (t : ℕ) → resolve-lts.Need-head-at-requires (resolve-sees t) (resolve-at t) resolve.Post
+resolve-head-at-requires t c κs = search needs
+
+resolve-write-ruled-requires : (t : ℕ) → resolve-lts.Need-write-ruled-requires (resolve-sees t) (resolve-at t) resolve.Post
+resolve-write-ruled-requires t c κs = search needs
+
+resolve-walk-requires : (t : ℕ) → resolve-lts.Need-walk-requires (resolve-sees t) (resolve-at t) resolve.Post
+resolve-walk-requires t c κs = (omega (arith, ruled-fewer _ _ _ (c .before .before .before .before .before .before .before .before .before .rule .ensures)), tt)
+
+-- the verdicts of the walk are few
+few-later : (t : ℕ) (c : resolve-lts.After-walk (resolve-sees t) (resolve-at t) resolve.Post) → c .walk .result .accepted + c .walk .result .rejected < 256
+few-later t c =
+    let r = c .before .before .before .before .before .before .before .before .before .before in
+    let h = few-answers _ _ _ (r .rule .result) _ _ _ _ (c .walk .ensures) in omega (arith, h, ruled-fewer _ _ _ (r .rule .ensures), small t (r .before .before))
+
+resolve-one-if-accepted-requires : (t : ℕ) → resolve-lts.Need-one-if-accepted-requires (resolve-sees t) (resolve-at t) resolve.Post
+resolve-one-if-accepted-requires t c κs = search needs
+
+resolve-add-t28 : (t : ℕ) → resolve-lts.Need-add-t28 (resolve-sees t) (resolve-at t) resolve.Post
+resolve-add-t28 t c = omega (arith, few-later t (c .before .before .before), one-accepted (c .before .before .before .before .before .before .before .before .before .before .before .before .before .before .before .args .v))
+
+resolve-one-if-rejected-requires : (t : ℕ) → resolve-lts.Need-one-if-rejected-requires (resolve-sees t) (resolve-at t) resolve.Post
+resolve-one-if-rejected-requires t c κs = search needs
+
+resolve-add-t30 : (t : ℕ) → resolve-lts.Need-add-t30 (resolve-sees t) (resolve-at t) resolve.Post
+resolve-add-t30 t c = omega (arith, few-later t (c .before .before .before .before .before), one-rejected (c .before .before .before .before .before .before .before .before .before .before .before .before .before .before .before .before .before .args .v))
+
+resolve-returns : (t : ℕ) → resolve-lts.Need-returns (resolve-sees t) (resolve-at t) resolve.Post
+resolve-returns t c up last =
+    let l = c .before .before .before .before .before in
+    let w = c .before .before .before .before .before .before .before .before .before .before in
+    count-parts up last _ _ _ _ _ _ _ _ _ _ _ _ _ _ (heads-long t (c .before .before .before .before .before .before .before .before .before .before .before .before .before .before .before .before .before)) (w .before .before .head-at .ensures) (w .before .before .before .before .before .before .values-at .ensures) (w .before .before .before .before .before .rule .ensures) (w .write-ruled .ensures .0)
+    (w .write-ruled .ensures .1) (l .walk .ensures up last) (omega arith) (omega arith)
+
+abbrev walk-Inv-loop : walk-lts.InvT-loop
+walk-Inv-loop heads based news notes₀ stamps₀ values₀ oks₀ others₀ n me i₀ notes stamps values oks others i =
+    ((up : Bool) (last : ℕ)
+    → answerOf (walked me n (requestsFrom heads based news) (siteOf up last stamps values notes oks others) i)
+    ≡ answerOf (walked me n (requestsFrom heads based news) (siteOf up last stamps₀ values₀ notes₀ oks₀ others₀) 0))
+    × (notes .waiting ≤ notes₀ .waiting)
+
+abbrev walk-μ-loop : walk-lts.MeasureT-loop
+walk-μ-loop heads based news notes₀ stamps₀ values₀ oks₀ others₀ n me i₀ notes stamps values oks others i = notes .waiting - i
+
+-- where the loop stood, and the call
+abbrev at-loop : (t : ℕ) → walk-lts.After-consider (walk-sees t) (walk-at t) walk.Post walk-Inv-loop walk-μ-loop → walk-lts.At-loop (walk-sees t) (walk-at t) walk.Post walk-Inv-loop walk-μ-loop
+at-loop t c = c .before .before .before .before .before .before .before .before .before .before
+
+abbrev at-start : (t : ℕ) → walk-lts.After-consider (walk-sees t) (walk-at t) walk.Post walk-Inv-loop walk-μ-loop → walk-lts.Start (walk-sees t) (walk-at t) walk.Post walk-Inv-loop walk-μ-loop
+at-start t c = at-loop t c .before
+
+walk-heads-long : (t : ℕ) (c : walk-lts.Start (walk-sees t) (walk-at t) walk.Post walk-Inv-loop walk-μ-loop) → length (c .args .heads) ≡ 16
+walk-heads-long t c = search (needs, length-mapped)
+
+-- what came of the turn
+walk-turn
+    : (t : ℕ) (c : walk-lts.After-consider (walk-sees t) (walk-at t) walk.Post walk-Inv-loop walk-μ-loop) (up : Bool) (last : ℕ)
+    → Turn (at-start t c .args .me) (at-start t c .args .n)
+    (requestsFrom (at-start t c .args .heads) (at-start t c .args .based .now) (at-start t c .args .news .now))
+    (siteOf up last (at-loop t c .loop .stamps) (at-loop t c .loop .values) (at-loop t c .loop .notes) (at-loop t c .loop .oks) (at-loop t c .loop .others))
+    (at-loop t c .loop .i)
+    (c .before .before .before .before .before .before .queued-at .result) (c .consider .result)
+    (answerOf (walked (at-start t c .args .me) (at-start t c .args .n)
+    (requestsFrom (at-start t c .args .heads) (at-start t c .args .based .now) (at-start t c .args .news .now))
+    (siteOf up last (at-start t c .args .stamps .now) (at-start t c .args .values .now) (at-start t c .args .notes) (at-start t c .args .oks .now) (at-start t c .args .others .now)) 0))
+walk-turn t c up last = let few = walk-heads-long t (at-start t c) in let e = at-loop t c .loop .inv .0 up last in search turn-is
+
+-- there is one
+walk-some
+    : (t : ℕ) (c : walk-lts.Then1 (walk-sees t) (walk-at t) walk.Post walk-Inv-loop walk-μ-loop)
+    → (0 < c .before .before .loop .notes .waiting) × (2 * c .before .before .loop .notes .waiting ≤ t)
+walk-some t c = (omega arith, omega arith)
+
+-- where a request was considered that has voted since
+abbrev at-turn : (t : ℕ) → walk-lts.After-is-open (walk-sees t) (walk-at t) walk.Post walk-Inv-loop walk-μ-loop → walk-lts.After-consider (walk-sees t) (walk-at t) walk.Post walk-Inv-loop walk-μ-loop
+at-turn t c = c .before .before .before .before .before .before .before .before .before .before .before
+
+-- the site that voted
+walk-voted
+    : (t : ℕ) (c : walk-lts.After-is-open (walk-sees t) (walk-at t) walk.Post walk-Inv-loop walk-μ-loop) (up : Bool) (last : ℕ)
+    → siteOf up last (at-loop t (at-turn t c) .loop .stamps) (at-loop t (at-turn t c) .loop .values) (c .before .before .before .before .cast-vote .result) (c .before .before .before .before .cast-vote .last .1 .0) (c .before .before .before .before .cast-vote .last .1 .1 .0)
+    ≡ votedFromQueue (at-start t (at-turn t c) .args .me)
+    (siteOf up last (at-loop t (at-turn t c) .loop .stamps) (at-loop t (at-turn t c) .loop .values) (at-loop t (at-turn t c) .loop .notes) (at-loop t (at-turn t c) .loop .oks) (at-loop t (at-turn t c) .loop .others))
+    (at-loop t (at-turn t c) .loop .i) (at-turn t c .before .before .before .before .before .before .queued-at .result) (c .before .before .before .before .before .mark-of .result)
+walk-voted t c up last =
+    voted-parts up last _ _ (at-loop t (at-turn t c) .loop .notes) (at-loop t (at-turn t c) .loop .oks) (at-loop t (at-turn t c) .loop .others) (at-start t (at-turn t c) .args .me) _ _ _ (c .before .before .before .before .before .before .before .before .leave-queue .ensures) (c .before .before .before .before .cast-vote .ensures .0) (c .before .before .before .before .cast-vote .ensures .1 .0) (c .before .before .before .before .cast-vote .ensures .1 .1)
+
+walk-fewer : (t : ℕ) (c : walk-lts.After-is-open (walk-sees t) (walk-at t) walk.Post walk-Inv-loop walk-μ-loop) → c .before .before .before .before .cast-vote .result .waiting ≡ at-loop t (at-turn t c) .loop .notes .waiting - 1
+walk-fewer t c = voted-fewer _ _ _ _ (c .before .before .before .before .before .before .before .before .leave-queue .ensures) (c .before .before .before .before .cast-vote .ensures .0)
+
+walk-loop-holds : (t : ℕ) → walk-lts.Need-loop-holds (walk-sees t) (walk-at t) walk.Post walk-Inv-loop walk-μ-loop
+walk-loop-holds t c = search needs
+
+walk-index-requires : (t : ℕ) → walk-lts.Need-index-requires (walk-sees t) (walk-at t) walk.Post walk-Inv-loop walk-μ-loop
+walk-index-requires t c κs = search needs
+
+walk-queued-at-requires : (t : ℕ) → walk-lts.Need-queued-at-requires (walk-sees t) (walk-at t) walk.Post walk-Inv-loop walk-μ-loop
+walk-queued-at-requires t c κs = search needs
+
+walk-stamps-at-requires : (t : ℕ) → walk-lts.Need-stamps-at-requires (walk-sees t) (walk-at t) walk.Post walk-Inv-loop walk-μ-loop
+walk-stamps-at-requires t c κs = search needs
+
+walk-head-at-requires : (t : ℕ) → walk-lts.Need-head-at-requires (walk-sees t) (walk-at t) walk.Post walk-Inv-loop walk-μ-loop
+walk-head-at-requires t c κs = search needs
+
+walk-consider-requires : (t : ℕ) → walk-lts.Need-consider-requires (walk-sees t) (walk-at t) walk.Post walk-Inv-loop walk-μ-loop
+walk-consider-requires t c κs = search needs
+
+walk-is-deferral-requires : (t : ℕ) → walk-lts.Need-is-deferral-requires (walk-sees t) (walk-at t) walk.Post walk-Inv-loop walk-μ-loop
+walk-is-deferral-requires t c κs = search needs
+
+walk-add-i : (t : ℕ) → walk-lts.Need-add-i (walk-sees t) (walk-at t) walk.Post walk-Inv-loop walk-μ-loop
+walk-add-i t c = search needs
+
+walk-loop-less : (t : ℕ) → walk-lts.Need-loop-less (walk-sees t) (walk-at t) walk.Post walk-Inv-loop walk-μ-loop
+walk-loop-less t c = search needs
+
+walk-loop-again : (t : ℕ) → walk-lts.Need-loop-again (walk-sees t) (walk-at t) walk.Post walk-Inv-loop walk-μ-loop
+walk-loop-again t c = (λ up last. keep-turn (walk-turn t (c .before .before) up last) (c .before .is-deferral .ensures) (c .if2 .taken), omega arith)
+
+walk-leave-queue-requires : (t : ℕ) → walk-lts.Need-leave-queue-requires (walk-sees t) (walk-at t) walk.Post walk-Inv-loop walk-μ-loop
+walk-leave-queue-requires t c κs = search needs
+
+walk-mark-of-requires : (t : ℕ) → walk-lts.Need-mark-of-requires (walk-sees t) (walk-at t) walk.Post walk-Inv-loop walk-μ-loop
+walk-mark-of-requires t c κs = search needs
+
+walk-cast-vote-requires : (t : ℕ) → walk-lts.Need-cast-vote-requires (walk-sees t) (walk-at t) walk.Post walk-Inv-loop walk-μ-loop
+walk-cast-vote-requires t c κs = search needs
+
+walk-verdict-due-requires : (t : ℕ) → walk-lts.Need-verdict-due-requires (walk-sees t) (walk-at t) walk.Post walk-Inv-loop walk-μ-loop
+walk-verdict-due-requires t c κs = search needs
+
+walk-is-open-requires : (t : ℕ) → walk-lts.Need-is-open-requires (walk-sees t) (walk-at t) walk.Post walk-Inv-loop walk-μ-loop
+walk-is-open-requires t c κs = search needs
+
+walk-resolve-requires : (t : ℕ) → walk-lts.Need-resolve-requires (walk-sees t) (walk-at t) walk.Post walk-Inv-loop walk-μ-loop
+walk-resolve-requires t c κs =
+    let v = c .before .before .before .before .before in (omega (arith, walk-fewer t v, walk-some t (at-turn t v .before .before .before .before .before .before .before .before)), tt)
+
+walk-returns : (t : ℕ) → walk-lts.Need-returns (walk-sees t) (walk-at t) walk.Post walk-Inv-loop walk-μ-loop
+walk-returns t c =
+    let v = c .before .before .before .before .before .before in
+    λ up last.
+    rule-turn (walk-turn t (at-turn t v) up last) (walk-voted t v up last) (v .before .before .before .before .before .mark-of .ensures) (v .before .before .before .before .before .before .before .before .before .before .is-deferral .ensures)
+    (v .before .before .before .before .before .before .before .before .before .if2 .left) (v .before .verdict-due .ensures) (v .is-open .ensures) (c .before .before .before .before .before .if3 .taken) (c .resolve .ensures up last)
+
+walk-loop-less-2 : (t : ℕ) → walk-lts.Need-loop-less-2 (walk-sees t) (walk-at t) walk.Post walk-Inv-loop walk-μ-loop
+walk-loop-less-2 t c =
+    let u = at-turn t (c .before) in fewer-left (u .before .before .before .before .before .before .before .before .if1 .taken) (u .before .before .before .before .before .before .before .before .before .index .ensures) (walk-fewer t (c .before))
+
+walk-loop-again-2 : (t : ℕ) → walk-lts.Need-loop-again-2 (walk-sees t) (walk-at t) walk.Post walk-Inv-loop walk-μ-loop
+walk-loop-again-2 t c =
+    let v = c .before in (
+      λ up last.
+          vote-turn (walk-turn t (at-turn t v) up last) (walk-voted t v up last) (v .before .before .before .before .before .mark-of .ensures) (v .before .before .before .before .before .before .before .before .before .before .is-deferral .ensures)
+          (v .before .before .before .before .before .before .before .before .before .if2 .left) (v .before .verdict-due .ensures) (v .is-open .ensures) (c .if3 .left),
+      le-trans (fewer-than (walk-fewer t v)) (at-loop t (at-turn t v) .loop .inv .1),
+    )
+
+walk-rest-requires : (t : ℕ) → walk-lts.Need-rest-requires (walk-sees t) (walk-at t) walk.Post walk-Inv-loop walk-μ-loop
+walk-rest-requires t c κs = search needs
+
+walk-returns-2 : (t : ℕ) → walk-lts.Need-returns-2 (walk-sees t) (walk-at t) walk.Post walk-Inv-loop walk-μ-loop
+walk-returns-2 t c =
+    λ up last. end-turn up last _ _ _ _ _ _ _ _ _ (c .before .before .before .loop .inv .0 up last) (c .before .if1 .left) (c .before .before .index .ensures) (c .rest .ensures)
+
+pub +resolve+walk-spec : {M : Type 1} → statement M
++resolve+walk-spec = close μ-resolve μ-walk (λ t. resolve-lts.spec (resolve-sees t)
+    (resolve-at t)
+    resolve.Post
+    (resolve-values-at-requires t)
+    (resolve-rule-requires t)
+    (resolve-head-at-requires t)
+    (resolve-write-ruled-requires t)
+    (resolve-walk-requires t)
+    (resolve-one-if-accepted-requires t)
+    (resolve-add-t28 t)
+    (resolve-one-if-rejected-requires t)
+    (resolve-add-t30 t)
+    (resolve-returns t))
+    λ t. walk-lts.spec (walk-sees t)
+    (walk-at t)
+    walk.Post
+    walk-Inv-loop
+    walk-μ-loop
+    (walk-loop-holds t)
+    (walk-index-requires t)
+    (walk-queued-at-requires t)
+    (walk-stamps-at-requires t)
+    (walk-head-at-requires t)
+    (walk-consider-requires t)
+    (walk-is-deferral-requires t)
+    (walk-add-i t)
+    (walk-loop-less t)
+    (walk-loop-again t)
+    (walk-leave-queue-requires t)
+    (walk-mark-of-requires t)
+    (walk-cast-vote-requires t)
+    (walk-verdict-due-requires t)
+    (walk-is-open-requires t)
+    (walk-resolve-requires t)
+    (walk-returns t)
+    (walk-loop-less-2 t)
+    (walk-loop-again-2 t)
+    (walk-rest-requires t)
+    (walk-returns-2 t)
