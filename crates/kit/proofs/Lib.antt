@@ -8,6 +8,7 @@ pub mod Passing
 pub mod Gathers
 pub mod Members
 pub mod Changes
+pub mod Turns
 pub mod Queues
 pub mod Puts
 pub mod Fields

@@ -1,6 +1,5 @@
 -- A law for each way through a step on its pieces, and for a table taken apart.
 mod Digits
-pub mod Turns
 pub mod Found
 mod AtSites
 mod Sending

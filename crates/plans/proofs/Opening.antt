@@ -18,7 +18,7 @@ use Rattle.vote.specs.Data.{isOpen, voteAt}
 use Rattle.vote.specs.Notes.{notesOf, siteOf, noNotes}
 use Rattle.vote.specs.declared.data.Notes.{Notes}
 use Rattle.vote.specs.declared.data.Site.{Site}
-use Rattle.plans.proofs.Turns.{listed-is, listed-set}
+use Rattle.kit.proofs.Turns.{listed-is, listed-set}
 use Rattle.plans.specs.Changes.{forgotten, notesForgotten, votersForgotten}
 use Rattle.plans.specs.Opened.{notesIn, oksIn, othersIn, stampsIn, valuesIn, siteFrom, sitesFrom}
 use Rattle.plans.specs.Pieces.{heldBack, heldBackBy}

@@ -9,7 +9,7 @@ use lib.ListN.{length, getD, set}
 use lib.Seq.{getD-set-same, getD-set-other}
 use Rattle.kit.proofs.Listings.{listed-at}
 use Rattle.kit.proofs.Ranges.{first-same}
-use Rattle.plans.proofs.Turns.{listed-set}
+use Rattle.kit.proofs.Turns.{listed-set}
 use Rattle.plans.specs.Pieces.{usedOf, freeIn, placeIn, freeMessageIn}
 use Rattle.table.specs.Places.{noMessage, placeAt, messageAt}
 use Rattle.table.specs.declared.data.Message.{Message}

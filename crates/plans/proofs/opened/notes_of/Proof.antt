@@ -1,6 +1,6 @@
 -- `plans::opened::notes_of` meets its contract: each place is put.
 use Prim.Native.Nat.{_-_}
-use Rattle.plans.proofs.Turns.{Laid, laid-none, laid-more, laid-all}
+use Rattle.kit.proofs.Turns.{Laid, laid-none, laid-more, laid-all}
 use Rattle.plans.specs.Opened.{notesIn}
 use Rattle.table.specs.Places.{noSite}
 use Rattle.vote.specs.Notes.{notesOf, noNotes}

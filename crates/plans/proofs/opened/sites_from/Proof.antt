@@ -1,7 +1,7 @@
 -- `plans::opened::sites_from` meets its contract: each place is put.
 use Prim.Native.Nat.{_-_}
 use Rattle.kit.proofs.Listings.{length-mapped}
-use Rattle.plans.proofs.Turns.{Laid, laid-none, laid-more, laid-all}
+use Rattle.kit.proofs.Turns.{Laid, laid-none, laid-more, laid-all}
 use Rattle.plans.specs.Opened.{siteFrom, sitesFrom}
 use Rattle.table.specs.Places.{noSite}
 use borrow.Author.Needs.{needs}

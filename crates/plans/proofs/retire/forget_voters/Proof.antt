@@ -1,7 +1,7 @@
 -- `plans::retire::forget_voters` meets its contract: after each turn one site more has forgotten.
 use Prim.Native.Nat.{_-_}
 use Rattle.plans.proofs.Retiring.{voters-anywhere}
-use Rattle.plans.proofs.Turns.{Turned, turned-none, turned-more, turned-all}
+use Rattle.kit.proofs.Turns.{Turned, turned-none, turned-more, turned-all}
 use Rattle.plans.specs.Changes.{votersForgotten}
 use borrow.Author.Needs.{needs}
 use mathlib.Core.List.{[]}
