@@ -189,6 +189,7 @@ pub(crate) fn answer_from(
         let number = r.number;
         let mut answer = refuse(number);
         if number == 0 {
+            // where the pieces of the step are
             let code = r.code;
             let j = message_for(code, used, r.place);
             let x = clamp(kit::index(j), 63);
@@ -196,6 +197,7 @@ pub(crate) fn answer_from(
             let k = site_for(code, r.site, told.to);
             let p = place_for(code, heads, r.stamp, told.request);
             let i = clamp(kit::index(p), 15);
+            // what the step comes to
             let mut kept = false;
             if code == 7 {
                 let held = t.messages;
@@ -220,6 +222,7 @@ pub(crate) fn answer_from(
                 p,
                 kept,
             );
+            // and carried out: what it puts in its places, a request stored or its place freed, the place forgotten, the site's part
             let m = c.message;
             t.messages[x] = m;
             used[x] = m.used;
@@ -265,6 +268,7 @@ pub(crate) fn answer_from(
                 answer.rejected = w.rejected;
             }
         }
+        // its line, and the next record
         to += write_answer(output, to, next, answer);
         next += 1;
         r = read_brief(&input[at..end]);
