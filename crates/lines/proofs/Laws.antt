@@ -10,7 +10,7 @@ use lib.Seq.{append-snoc}
 use Rattle.kit.proofs.Bools.{by-le}
 use Rattle.lines.specs.Lines.{digit, decimalOf, signedOf, field, lineOf, fitted}
 use Rattle.lines.proofs.Decimals.{decimal-small, decimal-more, by-digits, length-le}
-use Rattle.lines.proofs.Signs.{signed-le}
+use Rattle.lines.proofs.Tails.{line-with, with-short}
 use Rattle.lines.proofs.Writes.{fitted-in, fitted-out, length-line}
 
 -- ---- how long
@@ -20,16 +20,11 @@ module _ (nth number : ℕ) (first : ℤ) (second accepted rejected : ℕ) where
   pub line-some : 1 ≤ length (lineOf nth number first second accepted rejected)
   line-some = omega (arith, length-line nth number first second accepted rejected)
 
-  -- and has at most 20 + 1 + 3 + 1 + 20 + 1 + 20 + 1 + 10 + 1 + 10 + 1 bytes
+  -- and has at most 20 bytes in front of its tail
   pub line-short : nth < 2 ^ 64 → number < 2 ^ 8 → natAbs first ≤ 2 ^ 63 → second < 2 ^ 64 → accepted < 2 ^ 32 → rejected < 2 ^ 32 → length (lineOf nth number first second accepted rejected) ≤ 89
   line-short h₁ h₂ h₃ h₄ h₅ h₆ =
-      let l₁ = length-le 19 nth (omega arith) in
-      let l₂ = length-le 2 number (omega arith) in
-      let l₃ = signed-le first h₃ in
-      let l₄ = length-le 19 second (omega arith) in
-      let l₅ = length-le 9 accepted (omega arith) in
-      let l₆ = length-le 9 rejected (omega arith) in
-      omega (arith, length-line nth number first second accepted rejected)
+      rw (line-with number first second accepted rejected nth)
+      (with-short number first second accepted rejected (decimalOf nth) (length-le 19 nth (omega arith)) h₂ h₃ h₄ h₅ h₆)
 
   -- so the length 0 tells that it did not fit, and any other that it did
   module _ (d : List ℕ) (at : ℕ) where

@@ -3,7 +3,10 @@
 pub mod Decimals
 pub mod Signs
 pub mod Writes
+pub mod Tails
 -- What the layers above cite: how long a line can be, and that no two answers have the same line.
 pub mod Laws
 -- The lines of document 01.
 pub mod Cases
+-- The number of a record kept as digits.
+pub mod Counting

@@ -1,2 +1,3 @@
 -- What the contracts of `lines` cite.
 pub mod Lines
+pub mod Counts

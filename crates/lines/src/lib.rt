@@ -1,11 +1,14 @@
 // Numbers and answers as text, written into a lent buffer.
 ghost use mathlib.Core.Path.{_≡_};
 ghost use Prim.Native.Nat.{_+_, _≤_, _<_};
-ghost use lib.Dec.{leb};
+ghost use mathlib.Core.Bool.{_&&_};
+ghost use mathlib.Core.List.{[], _∷_};
+ghost use lib.Dec.{leb, eqb};
 ghost use lib.IntN.{natAbs};
-ghost use lib.ListN.{length};
-ghost use Rattle.kit.specs.Lists.{placed};
+ghost use lib.ListN.{length, take};
+ghost use Rattle.kit.specs.Lists.{put, placed};
 ghost use Rattle.lines.specs.Lines.{decimalOf, signedOf, field, lineOf, frontOf, backOf, fitted, Wrote};
+ghost use Rattle.lines.specs.Counts.{isKept, counted, countedDigits, countedLength, digitsOn, lengthOn, lineWith, tailOf, amplePlaced, ampleFitted};
 
 // ---- lengths
 
@@ -201,11 +204,41 @@ fn write_front(out: &mut [u8], at: usize, record: u64, number: u8, first: i64) -
     write_signed(out, q, first, b' ')
 }
 
+// Whether its last fields are all 0.
+fn all_zero(second: u64, accepted: u32, rejected: u32) -> bool
+    ensures { λ r. ⌜ r ≡ (eqb second 0 && (eqb accepted 0 && eqb rejected 0)) ⌝ }
+{
+    if second != 0 {
+        return false;
+    }
+    if accepted != 0 {
+        return false;
+    }
+    rejected == 0
+}
+
+// Three zeros as its last fields.
+fn write_zeros(out: &mut [u8], at: usize) -> usize
+    requires { ⌜ at + 6 ≤ length (now out) ⌝ }
+    ensures { λ r. ⌜ Wrote (now (out .entry)) at (48 ∷ 32 ∷ 48 ∷ 32 ∷ 48 ∷ 10 ∷ []) r (now (out .exit)) ⌝ }
+{
+    out[at] = b'0';
+    out[at + 1] = b' ';
+    out[at + 2] = b'0';
+    out[at + 3] = b' ';
+    out[at + 4] = b'0';
+    out[at + 5] = b'\n';
+    at + 6
+}
+
 // Its last fields.
 fn write_back(out: &mut [u8], at: usize, second: u64, accepted: u32, rejected: u32) -> usize
     requires { ⌜ at + length (backOf second accepted rejected) ≤ length (now out) ⌝ }
     ensures { λ r. ⌜ Wrote (now (out .entry)) at (backOf second accepted rejected) r (now (out .exit)) ⌝ }
 {
+    if all_zero(second, accepted, rejected) {
+        return write_zeros(out, at);
+    }
     let p = write_number(out, at, second, b' ');
     let q = write_number(out, p, accepted as u64, b' ');
     write_number(out, q, rejected as u64, b'\n')
@@ -239,5 +272,107 @@ pub fn write_line(
     }
     let p = write_front(out, at, record, number, first);
     let q = write_back(out, p, second, accepted, rejected);
+    q - at
+}
+
+// ---- the line with the number of its record kept as digits
+
+// Whether a number is kept in the first `len` of so many bytes: 1 to 8 digits, and 8 bytes to keep them in.
+fn is_kept(size: usize, len: usize) -> bool
+    ensures { λ r. ⌜ r ≡ isKept size len ⌝ }
+{
+    if len < 1 {
+        return false;
+    }
+    if 8 < len {
+        return false;
+    }
+    8 <= size
+}
+
+// The digits of n at the front, where it has at most 8 and there are 8 bytes; how many. Else nothing changes and they are none.
+pub fn count_from(digits: &mut [u8], n: u64) -> usize
+    ensures answer { λ r. ⌜ r ≡ countedLength (now (digits .entry)) n ⌝ }
+    ensures bytes { λ _. ⌜ now (digits .exit) ≡ countedDigits (now (digits .entry)) n ⌝ }
+{
+    if 100_000_000 <= n {
+        return 0;
+    }
+    if digits.len() < 8 {
+        return 0;
+    }
+    write_decimal(digits, 0, n)
+}
+
+// From the digits of n - 1, the first `len`, to those of n: a last digit below 9 alone grows, else all are made anew. Where none are kept, none are.
+pub fn count_on(digits: &mut [u8], len: usize, n: u64) -> usize
+    ensures answer { λ r. ⌜ r ≡ lengthOn (now (digits .entry)) len n ⌝ }
+    ensures bytes { λ _. ⌜ now (digits .exit) ≡ digitsOn (now (digits .entry)) len n ⌝ }
+{
+    if !is_kept(digits.len(), len) {
+        return 0;
+    }
+    let last = digits[len - 1];
+    if last < b'9' {
+        digits[len - 1] = last + 1;
+        return len;
+    }
+    count_from(digits, n)
+}
+
+// Eight bytes of digits, written at a place.
+fn write_eight(out: &mut [u8], at: usize, digits: &[u8])
+    requires { ⌜ (at + 8 ≤ length (now out)) × (8 ≤ length (now digits)) ⌝ }
+    ensures { λ _. ⌜ now (out .exit) ≡ put (now (out .entry)) at (take 8 (now (digits .entry))) ⌝ }
+{
+    for i in 0..8 {
+        out[at + i] = digits[i];
+    }
+}
+
+// What stands behind the first field of a line, written at a place; the place behind it.
+fn write_tail(
+    out: &mut [u8],
+    at: usize,
+    number: u8,
+    first: i64,
+    second: u64,
+    accepted: u32,
+    rejected: u32,
+) -> usize
+    requires { ⌜ at + length (tailOf number first second accepted rejected) ≤ length (now out) ⌝ }
+    ensures { λ r. ⌜ Wrote (now (out .entry)) at (tailOf number first second accepted rejected) r (now (out .exit)) ⌝ }
+{
+    out[at] = b' ';
+    let p = write_number(out, at + 1, number as u64, b' ');
+    let q = write_signed(out, p, first, b' ');
+    write_back(out, q, second, accepted, rejected)
+}
+
+// The line of an answer whose first field is the digits that are kept, else `record`, written at a place behind which 89 bytes fit; its length.
+// Where they do not, nothing changes and the length is 0. All eight bytes of the digits are written, and the rest of the line over those behind the number.
+pub fn write_counted(
+    out: &mut [u8],
+    at: usize,
+    digits: &[u8],
+    len: usize,
+    record: u64,
+    number: u8,
+    first: i64,
+    second: u64,
+    accepted: u32,
+    rejected: u32,
+) -> usize
+    ensures answer { λ r. ⌜ r ≡ ampleFitted (now (out .entry)) at (lineWith (counted (now (digits .entry)) len «record») number first second accepted rejected) ⌝ }
+    ensures bytes { λ _. ⌜ now (out .exit) ≡ amplePlaced (now (out .entry)) at (lineWith (counted (now (digits .entry)) len «record») number first second accepted rejected) ⌝ }
+{
+    if !kit::ends_inside(out.len(), at, 89) {
+        return 0;
+    }
+    if !is_kept(digits.len(), len) {
+        return write_line(out, at, record, number, first, second, accepted, rejected);
+    }
+    write_eight(out, at, digits);
+    let q = write_tail(out, at + len, number, first, second, accepted, rejected);
     q - at
 }

@@ -1,15 +1,13 @@
 -- Written by scripts/promises: for each public call of `record`, no two outcomes satisfy its promise.
 use mathlib.Core.Path.{refl}
 use Rattle.outcomes.specs.Outcomes.{OneOutcome}
-use Rattle.outcomes.proofs.Same.{as-one}
+use Rattle.outcomes.proofs.Same.{as-one, part-by-part}
 use Rattle.record.proofs.blank_step.Kinds as blank-step-kinds
 use Rattle.record.proofs.blank_step.Reads as blank-step-reads
 use Rattle.record.proofs.read_brief.Kinds as read-brief-kinds
 use Rattle.record.proofs.read_brief.Reads as read-brief-reads
-use Rattle.record.proofs.read_stamps.Kinds as read-stamps-kinds
-use Rattle.record.proofs.read_stamps.Reads as read-stamps-reads
-use Rattle.record.proofs.read_values.Kinds as read-values-kinds
-use Rattle.record.proofs.read_values.Reads as read-values-reads
+use Rattle.record.proofs.read_numbers.Kinds as read-numbers-kinds
+use Rattle.record.proofs.read_numbers.Reads as read-numbers-reads
 use Rattle.record.proofs.read_record.Kinds as read-record-kinds
 use Rattle.record.proofs.read_record.Reads as read-record-reads
 
@@ -21,13 +19,9 @@ one-blank-step κs a r r′ w w′ p q = (as-one p q, refl)
 pub one-read-brief : OneOutcome read-brief-kinds.ps read-brief-kinds.r read-brief-reads.Learnt
 one-read-brief κs a r r′ w w′ p q = (as-one p q, refl)
 
--- record::read_stamps
-pub one-read-stamps : OneOutcome read-stamps-kinds.ps read-stamps-kinds.r read-stamps-reads.Learnt
-one-read-stamps κs a r r′ w w′ p q = (as-one p q, refl)
-
--- record::read_values
-pub one-read-values : OneOutcome read-values-kinds.ps read-values-kinds.r read-values-reads.Learnt
-one-read-values κs a r r′ w w′ p q = (as-one p q, refl)
+-- record::read_numbers
+pub one-read-numbers : OneOutcome read-numbers-kinds.ps read-numbers-kinds.r read-numbers-reads.Learnt
+one-read-numbers κs a r r′ w w′ p q = (refl, part-by-part refl (part-by-part (as-one (p .0) (q .0)) (part-by-part (as-one (p .1) (q .1)) refl)))
 
 -- record::read_record
 pub one-read-record : OneOutcome read-record-kinds.ps read-record-kinds.r read-record-reads.Learnt

@@ -28,6 +28,20 @@ use Rattle.vote.proofs.consider.mark_of.Kinds as mark-of-kinds
 use Rattle.vote.proofs.consider.mark_of.Reads as mark-of-reads
 use Rattle.vote.proofs.consider.is_deferral.Kinds as is-deferral-kinds
 use Rattle.vote.proofs.consider.is_deferral.Reads as is-deferral-reads
+use Rattle.vote.proofs.numbers.mark_number.Kinds as mark-number-kinds
+use Rattle.vote.proofs.numbers.mark_number.Reads as mark-number-reads
+use Rattle.vote.proofs.numbers.mark_from.Kinds as mark-from-kinds
+use Rattle.vote.proofs.numbers.mark_from.Reads as mark-from-reads
+use Rattle.vote.proofs.numbers.verdict_number.Kinds as verdict-number-kinds
+use Rattle.vote.proofs.numbers.verdict_number.Reads as verdict-number-reads
+use Rattle.vote.proofs.numbers.verdict_from.Kinds as verdict-from-kinds
+use Rattle.vote.proofs.numbers.verdict_from.Reads as verdict-from-reads
+use Rattle.vote.proofs.numbers.vote_number.Kinds as vote-number-kinds
+use Rattle.vote.proofs.numbers.vote_number.Reads as vote-number-reads
+use Rattle.vote.proofs.numbers.vote_from.Kinds as vote-from-kinds
+use Rattle.vote.proofs.numbers.vote_from.Reads as vote-from-reads
+use Rattle.vote.proofs.numbers.said_at.Kinds as said-at-kinds
+use Rattle.vote.proofs.numbers.said_at.Reads as said-at-reads
 use Rattle.vote.proofs.queue.queued_at.Kinds as queued-at-kinds
 use Rattle.vote.proofs.queue.queued_at.Reads as queued-at-reads
 use Rattle.vote.proofs.queue.join_queue.Kinds as join-queue-kinds
@@ -38,12 +52,14 @@ use Rattle.vote.proofs.queue.leave_queue.Kinds as leave-queue-kinds
 use Rattle.vote.proofs.queue.leave_queue.Reads as leave-queue-reads
 use Rattle.vote.proofs.queue.place_in_queue.Kinds as place-in-queue-kinds
 use Rattle.vote.proofs.queue.place_in_queue.Reads as place-in-queue-reads
+use Rattle.vote.proofs.queue.release.Kinds as release-kinds
+use Rattle.vote.proofs.queue.release.Reads as release-reads
 use Rattle.vote.proofs.requests.blank_request.Kinds as blank-request-kinds
 use Rattle.vote.proofs.requests.blank_request.Reads as blank-request-reads
 use Rattle.vote.proofs.requests.head_of.Kinds as head-of-kinds
 use Rattle.vote.proofs.requests.head_of.Reads as head-of-reads
-use Rattle.vote.proofs.requests.heads_of.Kinds as heads-of-kinds
-use Rattle.vote.proofs.requests.heads_of.Reads as heads-of-reads
+use Rattle.vote.proofs.requests.head_from.Kinds as head-from-kinds
+use Rattle.vote.proofs.requests.head_from.Reads as head-from-reads
 use Rattle.vote.proofs.requests.is_covering.Kinds as is-covering-kinds
 use Rattle.vote.proofs.requests.is_covering.Reads as is-covering-reads
 use Rattle.vote.proofs.requests.is_conflicting.Kinds as is-conflicting-kinds
@@ -58,8 +74,6 @@ use Rattle.vote.proofs.verdicts.write_copy.Kinds as write-copy-kinds
 use Rattle.vote.proofs.verdicts.write_copy.Reads as write-copy-reads
 use Rattle.vote.proofs.verdicts.write_ruled.Kinds as write-ruled-kinds
 use Rattle.vote.proofs.verdicts.write_ruled.Reads as write-ruled-reads
-use Rattle.vote.proofs.verdicts.release.Kinds as release-kinds
-use Rattle.vote.proofs.verdicts.release.Reads as release-reads
 use Rattle.vote.proofs.verdicts.note_verdict.Kinds as note-verdict-kinds
 use Rattle.vote.proofs.verdicts.note_verdict.Reads as note-verdict-reads
 use Rattle.vote.proofs.verdicts.rule.Kinds as rule-kinds
@@ -155,6 +169,34 @@ one-mark-of κs a r r′ w w′ p q = (as-one p q, refl)
 pub one-is-deferral : OneOutcome is-deferral-kinds.ps is-deferral-kinds.r is-deferral-reads.Learnt
 one-is-deferral κs a r r′ w w′ p q = (as-one p q, refl)
 
+-- vote::numbers::mark_number
+pub one-mark-number : OneOutcome mark-number-kinds.ps mark-number-kinds.r mark-number-reads.Learnt
+one-mark-number κs a r r′ w w′ p q = (as-one p q, refl)
+
+-- vote::numbers::mark_from
+pub one-mark-from : OneOutcome mark-from-kinds.ps mark-from-kinds.r mark-from-reads.Learnt
+one-mark-from κs a r r′ w w′ p q = (as-one p q, refl)
+
+-- vote::numbers::verdict_number
+pub one-verdict-number : OneOutcome verdict-number-kinds.ps verdict-number-kinds.r verdict-number-reads.Learnt
+one-verdict-number κs a r r′ w w′ p q = (as-one p q, refl)
+
+-- vote::numbers::verdict_from
+pub one-verdict-from : OneOutcome verdict-from-kinds.ps verdict-from-kinds.r verdict-from-reads.Learnt
+one-verdict-from κs a r r′ w w′ p q = (as-one p q, refl)
+
+-- vote::numbers::vote_number
+pub one-vote-number : OneOutcome vote-number-kinds.ps vote-number-kinds.r vote-number-reads.Learnt
+one-vote-number κs a r r′ w w′ p q = (as-one p q, refl)
+
+-- vote::numbers::vote_from
+pub one-vote-from : OneOutcome vote-from-kinds.ps vote-from-kinds.r vote-from-reads.Learnt
+one-vote-from κs a r r′ w w′ p q = (as-one p q, refl)
+
+-- vote::numbers::said_at
+pub one-said-at : OneOutcome said-at-kinds.ps said-at-kinds.r said-at-reads.Learnt
+one-said-at κs a r r′ w w′ p q = (as-one p q, refl)
+
 -- vote::queue::queued_at
 pub one-queued-at : OneOutcome queued-at-kinds.ps queued-at-kinds.r queued-at-reads.Learnt
 one-queued-at κs a r r′ w w′ p q = (as-one p q, refl)
@@ -165,15 +207,19 @@ one-join-queue κs a r r′ w w′ p q = (as-one (p .0) (q .0), part-by-part (as
 
 -- vote::queue::move_up
 pub one-move-up : OneOutcome move-up-kinds.ps move-up-kinds.r move-up-reads.Learnt
-one-move-up κs a r r′ w w′ p q = (as-one p q, refl)
+one-move-up κs a r r′ w w′ p q = (refl, part-by-part (as-one p q) refl)
 
 -- vote::queue::leave_queue
 pub one-leave-queue : OneOutcome leave-queue-kinds.ps leave-queue-kinds.r leave-queue-reads.Learnt
-one-leave-queue κs a r r′ w w′ p q = (as-one p q, refl)
+one-leave-queue κs a r r′ w w′ p q = (as-one (p .0) (q .0), part-by-part (as-one (p .1) (q .1)) refl)
 
 -- vote::queue::place_in_queue
 pub one-place-in-queue : OneOutcome place-in-queue-kinds.ps place-in-queue-kinds.r place-in-queue-reads.Learnt
 one-place-in-queue κs a r r′ w w′ p q = (as-one p q, refl)
+
+-- vote::queue::release
+pub one-release : OneOutcome release-kinds.ps release-kinds.r release-reads.Learnt
+one-release κs a r r′ w w′ p q = (as-one (p .0) (q .0), part-by-part (as-one (p .1) (q .1)) refl)
 
 -- vote::requests::blank_request
 pub one-blank-request : OneOutcome blank-request-kinds.ps blank-request-kinds.r blank-request-reads.Learnt
@@ -183,9 +229,9 @@ one-blank-request κs a r r′ w w′ p q = (as-one p q, refl)
 pub one-head-of : OneOutcome head-of-kinds.ps head-of-kinds.r head-of-reads.Learnt
 one-head-of κs a r r′ w w′ p q = (as-one p q, refl)
 
--- vote::requests::heads_of
-pub one-heads-of : OneOutcome heads-of-kinds.ps heads-of-kinds.r heads-of-reads.Learnt
-one-heads-of κs a r r′ w w′ p q = (as-one p q, refl)
+-- vote::requests::head_from
+pub one-head-from : OneOutcome head-from-kinds.ps head-from-kinds.r head-from-reads.Learnt
+one-head-from κs a r r′ w w′ p q = (as-one p q, refl)
 
 -- vote::requests::is_covering
 pub one-is-covering : OneOutcome is-covering-kinds.ps is-covering-kinds.r is-covering-reads.Learnt
@@ -215,17 +261,13 @@ one-write-copy κs a r r′ w w′ p q = (refl, part-by-part (as-one (p .0) (q .
 pub one-write-ruled : OneOutcome write-ruled-kinds.ps write-ruled-kinds.r write-ruled-reads.Learnt
 one-write-ruled κs a r r′ w w′ p q = (refl, part-by-part refl (part-by-part (as-one (p .0) (q .0)) (part-by-part (as-one (p .1) (q .1)) refl)))
 
--- vote::verdicts::release
-pub one-release : OneOutcome release-kinds.ps release-kinds.r release-reads.Learnt
-one-release κs a r r′ w w′ p q = (as-one p q, refl)
-
 -- vote::verdicts::note_verdict
 pub one-note-verdict : OneOutcome note-verdict-kinds.ps note-verdict-kinds.r note-verdict-reads.Learnt
-one-note-verdict κs a r r′ w w′ p q = (as-one p q, refl)
+one-note-verdict κs a r r′ w w′ p q = (refl, part-by-part (as-one p q) refl)
 
 -- vote::verdicts::rule
 pub one-rule : OneOutcome rule-kinds.ps rule-kinds.r rule-reads.Learnt
-one-rule κs a r r′ w w′ p q = (as-one p q, refl)
+one-rule κs a r r′ w w′ p q = (as-one (p .1 .1 .0) (q .1 .1 .0), part-by-part (as-one (p .0) (q .0)) (part-by-part (as-one (p .1 .0) (q .1 .0)) refl))
 
 -- vote::voters::voters_of
 pub one-voters-of : OneOutcome voters-of-kinds.ps voters-of-kinds.r voters-of-reads.Learnt
@@ -293,12 +335,12 @@ one-vote-at κs a r r′ w w′ p q = (as-one p q, refl)
 
 -- vote::voting::put_mark
 pub one-put-mark : OneOutcome put-mark-kinds.ps put-mark-kinds.r put-mark-reads.Learnt
-one-put-mark κs a r r′ w w′ p q = (as-one p q, refl)
+one-put-mark κs a r r′ w w′ p q = (refl, part-by-part (as-one p q) refl)
 
 -- vote::voting::cast_vote
 pub one-cast-vote : OneOutcome cast-vote-kinds.ps cast-vote-kinds.r cast-vote-reads.Learnt
-one-cast-vote κs a r r′ w w′ p q = (as-one (p .0) (q .0), part-by-part refl (part-by-part (as-one (p .1 .0) (q .1 .0)) (part-by-part (as-one (p .1 .1) (q .1 .1)) refl)))
+one-cast-vote κs a r r′ w w′ p q = (refl, part-by-part (as-one (p .0) (q .0)) (part-by-part (as-one (p .1 .1 .0) (q .1 .1 .0)) (part-by-part (as-one (p .1 .1 .1) (q .1 .1 .1)) refl)))
 
 -- vote::voting::defer
 pub one-defer : OneOutcome defer-kinds.ps defer-kinds.r defer-reads.Learnt
-one-defer κs a r r′ w w′ p q = (as-one p q, refl)
+one-defer κs a r r′ w w′ p q = (as-one (p .1 .1 .0) (q .1 .1 .0), part-by-part (as-one (p .0) (q .0)) (part-by-part (as-one (p .1 .0) (q .1 .0)) refl))

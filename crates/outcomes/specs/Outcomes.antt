@@ -25,6 +25,21 @@ OneOutcome {n} ps r promise =
     → promise κs a result′ (atExit (endedOf n ps r) κs a lasts′)
     → (result ≡ result′) × (lasts ≡ lasts′)
 
+-- The same, where the promise fixes what one of the last values says and not how that is written: the last values are equal as they are read.
+abbrev pub OneOutcomeRead : {n : ℕ} (ps : List (PK n)) (r : RK n) → Out n ps r → {B : Type 0} → ((κs : Lfts n) (a : Dens κs ps) → Lasts (endedOf n ps r) κs a → B) → Type 0
+OneOutcomeRead {n} ps r promise asRead =
+    (κs : Lfts n) (a : Dens κs ps) (result result′ : resT r κs .Denot) (lasts lasts′ : Lasts (endedOf n ps r) κs a)
+    → promise κs a result (atExit (endedOf n ps r) κs a lasts)
+    → promise κs a result′ (atExit (endedOf n ps r) κs a lasts′)
+    → (result ≡ result′) × (asRead κs a lasts ≡ asRead κs a lasts′)
+
+-- the first of the last values read so, or the rest of them, and all else as it stands
+abbrev pub firstAs : {A B C : Type 0} → (A → C) → A × B → C × B
+firstAs f v = (f (v .0), v .1)
+
+abbrev pub restAs : {A B C : Type 0} → (B → C) → A × B → A × C
+restAs f v = (v .0, f (v .1))
+
 -- the clauses of a contract, in every model of the program logic
 abbrev pub ContractOf : Ended → Type 2
 ContractOf T = (M : Type 1) (𝓤 : URA M) (H : Heap 𝓤) → Atoms 𝓤 → (Memory → SProp 𝓤) → (Routine → Fun 𝓤) → Clauses 𝓤 T

@@ -12,35 +12,34 @@ use mir.Facts.{toZ-ofZ, sfits-widen}
 use mir.Syntax.{w32, w64}
 use mir.Val.{SFits, toZ, ofZ}
 use Rattle.plans.specs.Answers.{refusal, results}
-use Rattle.plans.specs.Pieces.{leftAs, downNumberOf, downPlan, upNumberOf, upPlan, readNumberOf, readPlan}
+use Rattle.plans.specs.Pieces.{downNumberOf, upNumberOf, readNumberOf, readPlan}
 use Rattle.plans.specs.declared.answer.Answer.{Answer}
-use Rattle.plans.specs.declared.sites.Turn.{Turn}
 
 module _ (n d : ℕ) {b : Bool} (h : b ≡ (leb 1 d && leb d n)) where
-  module _ (up : Bool) {z : Turn} where
-    pub down-3 : not b ≡ true → z ≡ leftAs 3 up → z ≡ downPlan n d up
-    unfolding downPlan downNumberOf
-    down-3 t r = rw (← h, t) r
+  module _ (up : Bool) where
+    pub down-3 : not b ≡ true → 3 ≡ downNumberOf n d up
+    unfolding downNumberOf
+    down-3 t = rw (← h, t)
 
-    pub down-4 : not b ≡ false → not up ≡ true → z ≡ leftAs 4 up → z ≡ downPlan n d up
-    unfolding downPlan downNumberOf
-    down-4 t u r = rw (← h, t, u) r
+    pub down-4 : not b ≡ false → not up ≡ true → 4 ≡ downNumberOf n d up
+    unfolding downNumberOf
+    down-4 t u = rw (← h, t, u)
 
-    pub up-3 : not b ≡ true → z ≡ leftAs 3 up → z ≡ upPlan n d up
-    unfolding upPlan upNumberOf
-    up-3 t r = rw (← h, t) r
+    pub down-0 : not b ≡ false → not up ≡ false → 0 ≡ downNumberOf n d up
+    unfolding downNumberOf
+    down-0 t u = rw (← h, t, u)
 
-    pub up-15 : not b ≡ false → up ≡ true → z ≡ leftAs 15 up → z ≡ upPlan n d up
-    unfolding upPlan upNumberOf
-    up-15 t u r = rw (← h, t, u) (rw u at r)
+    pub up-3 : not b ≡ true → 3 ≡ upNumberOf n d up
+    unfolding upNumberOf
+    up-3 t = rw (← h, t)
 
-  pub down-0 : (up : Bool) {w : Answer} → not b ≡ false → not up ≡ false → w ≡ results (pos 0) 0 0 0 → _≡_ {A = Turn} (record { answer = w; up = false }) (downPlan n d up)
-  unfolding downPlan downNumberOf
-  down-0 up t u r = rw (← h, t, u, r)
+    pub up-15 : not b ≡ false → up ≡ true → 15 ≡ upNumberOf n d up
+    unfolding upNumberOf
+    up-15 t u = rw (← h, t, u)
 
-  pub up-0 : (up : Bool) {w : Answer} → not b ≡ false → up ≡ false → w ≡ results (pos 0) 0 0 0 → _≡_ {A = Turn} (record { answer = w; up = true }) (upPlan n d up)
-  unfolding upPlan upNumberOf
-  up-0 up t u r = rw (← h, t, u, r)
+    pub up-0 : not b ≡ false → up ≡ false → 0 ≡ upNumberOf n d up
+    unfolding upNumberOf
+    up-0 t u = rw (← h, t, u)
 
   module _ (up : Bool) (stamps : List ℕ) (values : List ℤ) (item : ℕ) {z : Answer} where
     pub read-3 : not b ≡ true → z ≡ refusal 3 → z ≡ readPlan n d up stamps values item

@@ -1,18 +1,20 @@
--- Where the pieces are, as the code finds them: an index that is there, the site of a digit, and the first place of a kind.
-use Prim.Native.Nat.{ℕ, _-_, _<_, _≤_}
-use mathlib.Core.Bool.{Bool, false, not}
+-- Where the pieces are, as the code finds them: an index that is there, the site of a digit, the first place of a kind, and the lowest of a set.
+use Prim.Native.Nat.{ℕ, zero, suc, _-_, _^_, _<_, _≤_}
+use mathlib.Core.Bool.{not}
 use mathlib.Core.List.{List}
-use mathlib.Core.Path.{_≡_}
+use mathlib.Core.Path.{_≡_, refl, sym, ap, _∙_}
+use native.Mathlib.Omega.{arith}
 use borrow.Author.Tests.{eq-eqb, ne-eqb, le-leb, lt-leb}
+use lib.Count.{trailingZeros}
 use lib.Dec.{eqb}
 use lib.ListN.{getD}
-use Rattle.kit.specs.Lists.{listed}
 use Rattle.kit.specs.Range.{first}
-use Rattle.table.specs.Places.{noMessage}
-use Rattle.table.specs.declared.data.Message.{Message}
-use Rattle.vote.specs.Data.{headAt}
-use Rattle.vote.specs.declared.data.Head.{Head}
-use Rattle.plans.specs.Pieces.{within, usedOf, freeIn, placeIn, freeMessageIn, messageFor, siteFor, placeFor}
+use Rattle.kit.proofs.Bools.{clash, by-eq, by-lt}
+use Rattle.kit.proofs.Ranges.{none-of, first-is, first-none, first-le}
+use Rattle.sets.specs.Sets.{member}
+use Rattle.sets.proofs.Laws.{above, member-none}
+use Rattle.sets.proofs.Lowest.{lower, lowest}
+use Rattle.plans.specs.Pieces.{within, siteIndex, freeIn, placeIn, freeMessageIn}
 
 -- ---- an index that is there
 
@@ -24,61 +26,49 @@ pub within-high : (i last : ℕ) → last < i → last ≡ within i last
 unfolding within
 within-high i last h = rw (lt-leb i last h)
 
+-- the site of a digit
+pub site-zero : (digit : ℕ) → digit ≡ 0 → 0 ≡ siteIndex digit
+unfolding siteIndex within
+site-zero digit e = rw e
+
+pub site-digit : (digit : ℕ) {i x : ℕ} → i ≡ digit - 1 → x ≡ within i 6 → x ≡ siteIndex digit
+unfolding siteIndex
+site-digit digit f h = rw f at h
+
 -- ---- the first place of a kind
 
-pub free-is : (heads : List Head) {p : ℕ} → p ≡ first 16 (λ k. not (not (eqb (headAt heads k .stamp) 0))) → p ≡ freeIn heads
+pub free-is : (names : List ℕ) {p : ℕ} → p ≡ first 16 (λ k. not (not (eqb (getD names k 0) 0))) → p ≡ freeIn names
 unfolding freeIn
-free-is heads e = e
+free-is names e = e
 
-pub message-is-free : (used : List Bool) {j : ℕ} → j ≡ first 64 (λ k. not (getD used k false)) → j ≡ freeMessageIn used
-unfolding freeMessageIn
-message-is-free used e = e
-
-pub used-is : (messages : List Message) {used : List Bool} → used ≡ listed 64 (λ j. getD messages j noMessage .used) → used ≡ usedOf messages
-unfolding usedOf
-used-is messages e = e
-
-module _ (heads : List Head) (stamp : ℕ) where
-  pub place-zero : stamp ≡ 0 → 16 ≡ placeIn heads stamp
+module _ (names : List ℕ) (stamp : ℕ) where
+  pub place-zero : stamp ≡ 0 → 16 ≡ placeIn names stamp
   unfolding placeIn
   place-zero e = rw (eq-eqb stamp 0 e)
 
-  pub place-is : {p : ℕ} → (stamp ≡ 0 → ⊥) → p ≡ first 16 (λ k. eqb (headAt heads k .stamp) stamp) → p ≡ placeIn heads stamp
+  pub place-is : {p : ℕ} → (stamp ≡ 0 → ⊥) → p ≡ first 16 (λ k. eqb (getD names k 0) stamp) → p ≡ placeIn names stamp
   unfolding placeIn
   place-is h e = rw (ne-eqb stamp 0 h) e
 
--- ---- by the code of the step
+-- ---- the lowest of a set
 
-pub message-tell : (code place : ℕ) (used : List Bool) {j : ℕ} → code ≡ 2 → j ≡ freeMessageIn used → j ≡ messageFor code used place
-unfolding messageFor
-message-tell code place used e h = rw (eq-eqb code 2 e) h
+-- all k digits of 0 are zeros
+zeros-none : (k : ℕ) → trailingZeros k 0 ≡ k
+unfolding trailingZeros
+zeros-none zero = refl
+zeros-none (suc k) = ap suc (zeros-none k)
 
-pub message-given : (code place : ℕ) (used : List Bool) → (code ≡ 2 → ⊥) → place ≡ messageFor code used place
-unfolding messageFor
-message-given code place used e = rw (ne-eqb code 2 e)
+-- the zeros below the lowest digit of a set of width k are as many as the first that is in it
+zeros-first : (k s : ℕ) → s < 2 ^ k → trailingZeros k s ≡ first k (member s)
+zeros-first k s h =
+    by-eq s 0 (λ e. rw e (zeros-none k ∙ sym (first-none k (member 0) (none-of k (member 0) (λ i l. member-none i)))))
+    (λ ne. let m = lowest k s ne h in
+    let l : trailingZeros k s < k = by-lt (trailingZeros k s) k (λ l. l) (λ l. clash m (above k s (trailingZeros k s) h l)) in
+    sym (first-is k (trailingZeros k s) (member s) (none-of (trailingZeros k s) (member s) (lower k s)) l m))
 
-module _ (code digit to : ℕ) where
-  pub site-to : {i x : ℕ} → code ≡ 3 → i ≡ to → x ≡ within i 6 → x ≡ siteFor code digit to
-  unfolding siteFor
-  site-to e f h = rw (eq-eqb code 3 e) (rw f at h)
+pub message-lowest : (s : ℕ) → s < 2 ^ 64 → trailingZeros 64 s ≡ freeMessageIn s
+unfolding freeMessageIn
+message-lowest s h = zeros-first 64 s h
 
-  pub site-zero : (code ≡ 3 → ⊥) → digit ≡ 0 → 0 ≡ siteFor code digit to
-  unfolding siteFor within
-  site-zero e f = rw (ne-eqb code 3 e, f)
-
-  pub site-given : {i x : ℕ} → (code ≡ 3 → ⊥) → i ≡ digit - 1 → x ≡ within i 6 → x ≡ siteFor code digit to
-  unfolding siteFor
-  site-given e f h = rw (ne-eqb code 3 e) (rw f at h)
-
-module _ (code : ℕ) (heads : List Head) (stamp named : ℕ) where
-  pub place-begin : {p : ℕ} → code ≡ 1 → p ≡ freeIn heads → p ≡ placeFor code heads stamp named
-  unfolding placeFor
-  place-begin e h = rw (eq-eqb code 1 e) h
-
-  pub place-named : (code ≡ 1 → ⊥) → code ≡ 3 → named ≡ placeFor code heads stamp named
-  unfolding placeFor
-  place-named e f = rw (ne-eqb code 1 e, eq-eqb code 3 f)
-
-  pub place-given : {p : ℕ} → (code ≡ 1 → ⊥) → (code ≡ 3 → ⊥) → p ≡ placeIn heads stamp → p ≡ placeFor code heads stamp named
-  unfolding placeFor
-  place-given e f h = rw (ne-eqb code 1 e, ne-eqb code 3 f) h
+pub message-few : (s : ℕ) → s < 2 ^ 64 → trailingZeros 64 s < 256
+message-few s h = let l : first 64 (member s) ≤ 64 = first-le 64 (member s) in let e = zeros-first 64 s h in omega arith

@@ -3,7 +3,8 @@ mod Digits
 pub mod Found
 mod AtSites
 mod Sending
+pub mod Posting
 mod Retiring
 mod Beginning
-mod Planning
+mod Elements
 pub mod Opening

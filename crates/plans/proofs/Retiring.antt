@@ -1,19 +1,18 @@
 -- Retire, over the values that the code has at hand: what is asked, what is forgotten, and a law for each way through the step.
 use Prim.Native.Nat.{ℕ, _<_, _≤_}
-use mathlib.Core.Bool.{Bool, true, false, not, _&&_}
+use mathlib.Core.Bool.{Bool, true, false, _&&_}
 use mathlib.Core.List.{List}
-use mathlib.Core.Path.{_≡_, sym}
+use mathlib.Core.Path.{_≡_}
 use native.Mathlib.Omega.{arith}
-use borrow.Author.Tests.{eq-eqb, ne-eqb, lt-ltb, le-ltb, not-true, not-false}
+use borrow.Author.Tests.{eq-eqb, ne-eqb, lt-ltb, le-ltb}
 use lib.Dec.{eqb, ltb}
-use lib.ListN.{length, set}
-use lib.Seq.{set-out}
-use Rattle.vote.specs.Data.{isOpen, noVote}
+use lib.ListN.{getD, set}
+use Rattle.vote.specs.Data.{isOpen}
 use Rattle.vote.specs.Voters.{clearVoters}
-use Rattle.vote.specs.declared.data.Notes.{Notes}
 use Rattle.vote.specs.declared.data.Vote.{Vote}
+use Rattle.plans.specs.Letters.{isLetter}
 use Rattle.plans.specs.Pieces.{retireNumberOf}
-use Rattle.plans.specs.Changes.{notesForgotten, votersForgotten}
+use Rattle.plans.specs.Changes.{votesForgotten, votersForgotten}
 
 -- ---- one site, one message
 
@@ -23,11 +22,11 @@ open-beyond k n b e l = rw (le-ltb k n (omega arith))
 pub open-within : (k n : ℕ) {r : Bool} {i : ℕ} {v : Vote} (w : Vote) → i ≡ n → k < i → v ≡ w → r ≡ isOpen (v .verdict) → r ≡ (ltb k n && isOpen (w .verdict))
 open-within k n w e l f h = rw (lt-ltb k n (omega arith), ← f) h
 
-pub named-unused : (u b : Bool) → not u ≡ true → false ≡ (u && b)
-named-unused u b h = rw (not-true u h)
+pub named-unused : (row : List ℕ) (b : Bool) → getD row 0 0 ≡ 0 → false ≡ (isLetter row && b)
+named-unused row b h = rw (eq-eqb (getD row 0 0) 0 h)
 
-pub named-used : (u : Bool) (r p : ℕ) → not u ≡ false → eqb r p ≡ (u && eqb r p)
-named-used u r p h = rw (not-false u h)
+pub named-used : (row : List ℕ) (r p : ℕ) → (getD row 0 0 ≡ 0 → ⊥) → eqb r p ≡ (isLetter row && eqb r p)
+named-used row r p h = rw (ne-eqb (getD row 0 0) 0 h)
 
 -- ---- the number
 
@@ -47,22 +46,18 @@ module _ (p : ℕ) (held : Bool) where
 
 -- ---- what is forgotten at one site
 
-pub vote-beyond : (votes : List Vote) (p : ℕ) {i : ℕ} → length votes ≡ 16 → i ≡ p → 15 < i → votes ≡ set votes p noVote
-vote-beyond votes p l e h = let k : length votes ≤ p = omega arith in sym (set-out votes p noVote k)
+pub vote-beyond : (row : List ℕ) (p : ℕ) {i : ℕ} → i ≡ p → 15 < i → row ≡ votesForgotten p 0 row
+unfolding votesForgotten
+vote-beyond row p e h = let k : 16 ≤ p = omega arith in rw (le-ltb p 16 k)
 
-pub vote-cleared : (votes : List Vote) (p : ℕ) {i : ℕ} → i ≡ p → set votes i noVote ≡ set votes p noVote
-vote-cleared votes p e = rw e
-
-pub notes-forgot
-    : (p : ℕ) (s : Notes) {votes : List Vote} → votes ≡ set (s .votes) p noVote
-    → _≡_ {A = Notes} (record { votes = votes; queue = s .queue; waiting = s .waiting }) (notesForgotten p 0 s)
-unfolding notesForgotten
-notes-forgot p s e = rw e
+pub vote-cleared : (row : List ℕ) (p : ℕ) {i : ℕ} → i ≡ p → i ≤ 15 → set row i 0 ≡ votesForgotten p 0 row
+unfolding votesForgotten
+vote-cleared row p e h = let k : p < 16 = omega arith in rw (e, lt-ltb p 16 k)
 
 -- the place of the site says nothing
-pub notes-anywhere : (p k : ℕ) (s : Notes) {r : Notes} → r ≡ notesForgotten p 0 s → r ≡ notesForgotten p k s
-unfolding notesForgotten
-notes-anywhere p k s e = e
+pub votes-anywhere : (p k : ℕ) (row : List ℕ) {r : List ℕ} → r ≡ votesForgotten p 0 row → r ≡ votesForgotten p k row
+unfolding votesForgotten
+votes-anywhere p k row e = e
 
 pub voters-anywhere : (p k : ℕ) (known : List Bool) {r : List Bool} → r ≡ clearVoters known p → r ≡ votersForgotten p k known
 unfolding votersForgotten

@@ -2,6 +2,7 @@
 use Prim.Native.Nat.{ℕ}
 use mathlib.Core.Bool.{Bool, true, cond}
 use mathlib.Core.List.{List}
+use lib.Dec.{ltb}
 use lib.IntN.{pos}
 use lib.ListN.{getD, set}
 use Rattle.kit.specs.Lists.{listed}
@@ -10,7 +11,6 @@ use Rattle.sets.specs.Sets.{member}
 use Rattle.table.specs.declared.data.Message.{Message}
 use Rattle.vote.specs.Data.{isOpen, noVote, voteAt, withVotes, withKnown}
 use Rattle.vote.specs.Voters.{votersOf, clearVoters, noRow}
-use Rattle.vote.specs.declared.data.Notes.{Notes}
 use Rattle.vote.specs.declared.data.Request.{Request}
 use Rattle.vote.specs.declared.data.Site.{Site}
 use Rattle.vote.specs.declared.data.Verdict.{Verdict}
@@ -44,9 +44,9 @@ messageFrom s p from to = messageOf (voteAt (s .votes) p .verdict) (s .oks) (s .
 unfoldable pub forgotten : ℕ → ℕ → Site → Site
 forgotten p k s = withVotes (set (s .votes) p noVote) (withKnown (clearVoters (s .oks) p) (clearVoters (s .others) p) s)
 
--- the notes of a site that has said nothing of place p any more, and the voters that it knows of one kind with none of place p
-unfoldable pub notesForgotten : ℕ → ℕ → Notes → Notes
-notesForgotten p k s = record { votes = set (s .votes) p noVote; queue = s .queue; waiting = s .waiting }
+-- the numbers of what a site has said with nothing said of place p any more, and the voters that it knows of one kind with none of place p
+unfoldable pub votesForgotten : ℕ → ℕ → List ℕ → List ℕ
+votesForgotten p k row = cond (ltb p 16) (set row p 0) row
 
 unfoldable pub votersForgotten : ℕ → ℕ → List Bool → List Bool
 votersForgotten p k known = clearVoters known p

@@ -2,9 +2,9 @@
 // table taken apart for a run of steps, and put together again.
 pub mod answer;
 pub mod begin;
+pub mod letters;
 pub mod messages;
 pub mod opened;
 pub mod places;
-pub mod plan;
 pub mod retire;
 pub mod sites;

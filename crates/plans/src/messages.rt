@@ -1,59 +1,13 @@
-// Steps 2, 3 and 4: tell, deliver and drop.
+// Steps 2, 3 and 4, their numbers: tell, deliver and drop.
 ghost use mathlib.Core.Path.{_≡_};
-ghost use mathlib.Core.Bool.{not, _||_, cond};
+ghost use mathlib.Core.Bool.{not, _||_};
 ghost use Rattle.vote.specs.Data.{isOk, isOther, isOpen};
-ghost use Rattle.vote.specs.Voters.{votersOf, noRow};
-ghost use Rattle.plans.specs.Pieces.{postedAs, tellPlan, dropPlan, deliverNumberOf};
-ghost use Rattle.plans.specs.Changes.{messageOf};
-use crate::answer::Answer;
-use crate::answer::give;
-use crate::answer::refuse;
+ghost use Rattle.plans.specs.Pieces.{tellNumberOf, dropNumberOf, deliverNumberOf};
 use crate::sites::is_site;
-use table::data::Message;
-use table::fresh::blank_message;
 use vote::consider::is_ok;
 use vote::consider::is_open;
 use vote::consider::is_other;
-use vote::data::Verdict;
 use vote::data::Vote;
-use vote::voters::no_voters;
-use vote::voters::voters_of;
-use vote::voting::vote_at;
-
-// What a site tells of voters at place p: those that it knows while it holds the request open, else none.
-fn voters_told(held_open: bool, known: &[bool; 112], p: u8) -> [bool; 7]
-    ensures { λ r. ⌜ r ≡ cond held_open (votersOf (now (known .entry)) p) noRow ⌝ }
-{
-    if held_open {
-        return voters_of(known, p);
-    }
-    no_voters()
-}
-
-// What site `from` tells of place p: its known voters while it holds the request open, else its verdict.
-fn message_from<'a>(
-    verdict: Verdict,
-    oks: &'a [bool; 112],
-    others: &'a [bool; 112],
-    p: u8,
-    from: u8,
-    to: u8,
-) -> Message
-    ensures { λ r. ⌜ r ≡ messageOf verdict (now (oks .entry)) (now (others .entry)) p from to ⌝ }
-{
-    let held_open = is_open(verdict);
-    let told_oks = voters_told(held_open, oks, p);
-    let told_others = voters_told(held_open, others, p);
-    Message {
-        used: true,
-        request: p,
-        from,
-        to,
-        verdict,
-        oks: told_oks,
-        others: told_others,
-    }
-}
 
 // Whether a site has a vote or a verdict.
 fn has_word(v: Vote) -> bool
@@ -70,96 +24,59 @@ fn has_word(v: Vote) -> bool
     !is_open(d)
 }
 
-// The answer, and what stands at the message place now.
-pub struct Post {
-    pub answer: Answer,
-    pub message: Message,
-}
-
-// A message place that is left as it was.
-fn keep(number: u8, message: Message) -> Post
-    ensures { λ r. ⌜ r ≡ postedAs number message ⌝ }
-{
-    Post {
-        answer: refuse(number),
-        message,
-    }
-}
-
-// Step 2: the site with the digit `from`, which is up or not, has said `votes` and knows these voters, tells `to` of the request at place p. The
-// lowest free message place is j, and m stands there.
-pub fn tell<'a>(
-    n: u8,
-    from: u8,
-    to: u8,
-    up: bool,
-    votes: [Vote; 16],
-    oks: &'a [bool; 112],
-    others: &'a [bool; 112],
-    p: u8,
-    j: u8,
-    m: Message,
-) -> Post
-    ensures { λ r. ⌜ r ≡ tellPlan n from to up votes (now (oks .entry)) (now (others .entry)) p j m ⌝ }
+// Step 2, its number: the site with the digit `from`, of n, which is up or not and has said v of the request at place p, tells `to` of it. The
+// lowest free message place is j.
+pub fn tell_number(n: u8, from: u8, to: u8, up: bool, v: Vote, p: u8, j: u8) -> u8
+    ensures { λ r. ⌜ r ≡ tellNumberOf n from to up v p j ⌝ }
 {
     if !is_site(n, from) {
-        return keep(3, m);
+        return 3;
     }
     if !is_site(n, to) {
-        return keep(3, m);
+        return 3;
     }
-    let teller = from - 1;
-    let receiver = to - 1;
     if !up {
-        return keep(4, m);
+        return 4;
     }
     if p == 16 {
-        return keep(10, m);
+        return 10;
     }
-    let v = vote_at(votes, p);
     if !has_word(v) {
-        return keep(11, m);
+        return 11;
     }
     if from == to {
-        return keep(11, m);
+        return 11;
     }
     if j == 64 {
-        return keep(12, m);
+        return 12;
     }
-    let verdict = v.verdict;
-    Post {
-        answer: give(j as i64, 0),
-        message: message_from(verdict, oks, others, p, teller, receiver),
-    }
+    0
 }
 
-// Step 4: the message m at message place j is lost.
-pub fn drop(j: u8, m: Message) -> Post
-    ensures { λ r. ⌜ r ≡ dropPlan j m ⌝ }
-{
-    if 63 < j {
-        return keep(13, m);
-    }
-    if !m.used {
-        return keep(13, m);
-    }
-    Post {
-        answer: give(0, 0),
-        message: blank_message(),
-    }
-}
-
-// Step 3, its number: the message m at message place j comes to its receiver, which is up or not.
-pub fn deliver_number(j: u8, m: Message, up: bool) -> u8
-    ensures { λ r. ⌜ r ≡ deliverNumberOf j m up ⌝ }
+// Step 4, its number: the message at message place j, which is used or not, is lost.
+pub fn drop_number(j: u8, used: bool) -> u8
+    ensures { λ r. ⌜ r ≡ dropNumberOf j used ⌝ }
 {
     if 63 < j {
         return 13;
     }
-    if !m.used {
+    if !used {
         return 13;
     }
-    if 6 < m.to {
+    0
+}
+
+// Step 3, its number: the message at message place j, which is used or not, comes to the site of index `to`, which is up or not.
+pub fn deliver_number(j: u8, used: bool, to: u8, up: bool) -> u8
+    ensures { λ r. ⌜ r ≡ deliverNumberOf j used to up ⌝ }
+{
+    if 63 < j {
+        return 13;
+    }
+    if !used {
+        return 13;
+    }
+    if 6 < to {
         return 4;
     }
     if !up {

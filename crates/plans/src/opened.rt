@@ -1,59 +1,33 @@
-// A table taken apart for a run of steps: the notes of its sites, their copies and the voters that they know, each in rows of its own, which are
-// lent and changed where they stand. And its sites put together again.
+// A table taken apart for a run of steps: of its sites whether each is up, its last t, its copy, what it has said, its queue and the voters that
+// it knows, each in rows of its own, which are lent and changed where they stand. And its sites put together again.
 ghost use mathlib.Core.Path.{_≡_};
-ghost use Rattle.vote.specs.Notes.{notesOf};
-ghost use Rattle.plans.specs.Opened.{notesIn, oksIn, othersIn, stampsIn, valuesIn, sitesFrom};
-use vote::data::Notes;
+ghost use Rattle.vote.specs.Notes.{siteOf};
+ghost use Rattle.vote.specs.Numbers.{numbersOf, votesFrom, notesFrom};
+ghost use Rattle.plans.specs.Opened.{upsIn, lastsIn, stampsIn, valuesIn, votesIn, queuesIn, waitingsIn, oksIn, othersIn, sitesFrom};
+use table::fresh::blank_site;
+use vote::data::Mark;
 use vote::data::Site;
+use vote::data::Verdict;
+use vote::data::Vote;
+use vote::numbers::vote_from;
+use vote::numbers::vote_number;
 
-// The notes of a site.
-fn notes_at(s: Site) -> Notes
-    ensures { λ r. ⌜ r ≡ notesOf s ⌝ }
+// Whether each site is up.
+pub fn ups_of(sites: [Site; 7]) -> [bool; 7]
+    ensures { λ r. ⌜ r ≡ upsIn sites ⌝ }
 {
-    let votes = s.votes;
-    let queue = s.queue;
-    Notes {
-        votes,
-        queue,
-        waiting: s.waiting,
-    }
-}
-
-// The notes of each site.
-pub fn notes_of(sites: [Site; 7]) -> [Notes; 7]
-    ensures { λ r. ⌜ r ≡ notesIn sites ⌝ }
-{
-    let mut notes = [notes_at(sites[0]); 7];
+    let mut all = [false; 7];
     for k in 0..7 {
-        notes[k] = notes_at(sites[k]);
-    }
-    notes
-}
-
-// The OK voters that each site knows.
-pub fn oks_of(sites: [Site; 7]) -> [[bool; 112]; 7]
-    ensures { λ r. ⌜ r ≡ oksIn sites ⌝ }
-{
-    let mut all = [[false; 112]; 7];
-    for k in 0..7 {
-        let s = sites[k];
-        let row = s.oks;
-        all[k] = row;
+        all[k] = sites[k].up;
     }
     all
 }
 
-// The other voters that each site knows.
-pub fn others_of(sites: [Site; 7]) -> [[bool; 112]; 7]
-    ensures { λ r. ⌜ r ≡ othersIn sites ⌝ }
+// The last t of each site.
+pub fn lasts_of(sites: [Site; 7]) -> [u32; 7]
+    ensures { λ r. ⌜ r ≡ lastsIn sites ⌝ }
 {
-    let mut all = [[false; 112]; 7];
-    for k in 0..7 {
-        let s = sites[k];
-        let row = s.others;
-        all[k] = row;
-    }
-    all
+    table::marks::lasts_of(sites)
 }
 
 // The stamps of each site's copy.
@@ -82,34 +56,151 @@ pub fn values_of(sites: [Site; 7]) -> [[i32; 24]; 7]
     all
 }
 
-// The sites put together: up or not and last t as they stand in `sites`, all else from the rows.
+// The numbers of what a site has said.
+fn numbers_of(votes: [Vote; 16]) -> [u8; 16]
+    ensures { λ r. ⌜ r ≡ numbersOf votes ⌝ }
+{
+    let mut row = [0u8; 16];
+    for p in 0..16 {
+        row[p] = vote_number(votes[p]);
+    }
+    row
+}
+
+// The numbers of what each site has said. Put together again with all else, they are the sites.
+pub fn votes_of(sites: [Site; 7]) -> [[u8; 16]; 7]
+    ensures rows { λ r. ⌜ r ≡ votesIn sites ⌝ }
+    ensures all { λ r. ⌜ sitesFrom (upsIn sites) (lastsIn sites) (stampsIn sites) (valuesIn sites) r (queuesIn sites) (waitingsIn sites) (oksIn sites) (othersIn sites) ≡ sites ⌝ }
+{
+    let mut rows = [[0u8; 16]; 7];
+    for k in 0..7 {
+        let s = sites[k];
+        let votes = s.votes;
+        rows[k] = numbers_of(votes);
+    }
+    rows
+}
+
+// The queue of each site.
+pub fn queues_of(sites: [Site; 7]) -> [[u8; 16]; 7]
+    ensures { λ r. ⌜ r ≡ queuesIn sites ⌝ }
+{
+    let mut all = [[0u8; 16]; 7];
+    for k in 0..7 {
+        let s = sites[k];
+        let row = s.queue;
+        all[k] = row;
+    }
+    all
+}
+
+// How many places of each site's queue count.
+pub fn waitings_of(sites: [Site; 7]) -> [u8; 7]
+    ensures { λ r. ⌜ r ≡ waitingsIn sites ⌝ }
+{
+    let mut all = [0u8; 7];
+    for k in 0..7 {
+        all[k] = sites[k].waiting;
+    }
+    all
+}
+
+// The OK voters that each site knows.
+pub fn oks_of(sites: [Site; 7]) -> [[bool; 112]; 7]
+    ensures { λ r. ⌜ r ≡ oksIn sites ⌝ }
+{
+    let mut all = [[false; 112]; 7];
+    for k in 0..7 {
+        let s = sites[k];
+        let row = s.oks;
+        all[k] = row;
+    }
+    all
+}
+
+// The other voters that each site knows.
+pub fn others_of(sites: [Site; 7]) -> [[bool; 112]; 7]
+    ensures { λ r. ⌜ r ≡ othersIn sites ⌝ }
+{
+    let mut all = [[false; 112]; 7];
+    for k in 0..7 {
+        let s = sites[k];
+        let row = s.others;
+        all[k] = row;
+    }
+    all
+}
+
+// What a site has said, by its numbers.
+fn votes_from(row: [u8; 16]) -> [Vote; 16]
+    ensures { λ r. ⌜ r ≡ votesFrom row ⌝ }
+{
+    let none = Vote {
+        mark: Mark::None,
+        verdict: Verdict::Open,
+    };
+    let mut votes = [none; 16];
+    for p in 0..16 {
+        votes[p] = vote_from(row[p]);
+    }
+    votes
+}
+
+// One site put together.
+fn site_from(
+    up: bool,
+    last: u32,
+    stamps: [u64; 24],
+    values: [i32; 24],
+    row: [u8; 16],
+    queue: [u8; 16],
+    waiting: u8,
+    oks: [bool; 112],
+    others: [bool; 112],
+) -> Site
+    ensures { λ r. ⌜ r ≡ siteOf up last stamps values (notesFrom row queue waiting) oks others ⌝ }
+{
+    let votes = votes_from(row);
+    Site {
+        up,
+        last,
+        stamps,
+        values,
+        queue,
+        waiting,
+        votes,
+        oks,
+        others,
+    }
+}
+
+// The sites put together.
 pub fn sites_from(
-    sites: [Site; 7],
+    ups: [bool; 7],
+    lasts: [u32; 7],
     stamps: [[u64; 24]; 7],
     values: [[i32; 24]; 7],
-    notes: [Notes; 7],
+    votes: [[u8; 16]; 7],
+    queues: [[u8; 16]; 7],
+    waitings: [u8; 7],
     oks: [[bool; 112]; 7],
     others: [[bool; 112]; 7],
 ) -> [Site; 7]
-    ensures { λ r. ⌜ r ≡ sitesFrom sites stamps values notes oks others ⌝ }
+    ensures { λ r. ⌜ r ≡ sitesFrom ups lasts stamps values votes queues waitings oks others ⌝ }
 {
-    let mut all = sites;
+    let mut all = [blank_site(false); 7];
     for k in 0..7 {
-        let said = notes[k];
-        let queue = said.queue;
-        let votes = said.votes;
-        let s = Site {
-            up: sites[k].up,
-            last: sites[k].last,
-            stamps: stamps[k],
-            values: values[k],
-            queue,
-            waiting: said.waiting,
-            votes,
-            oks: oks[k],
-            others: others[k],
-        };
-        all[k] = s;
+        all[k] = site_from(
+            ups[k],
+            lasts[k],
+            stamps[k],
+            values[k],
+            votes[k],
+            queues[k],
+            waitings[k],
+            oks[k],
+            others[k],
+        );
     }
     all
 }

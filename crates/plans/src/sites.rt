@@ -2,7 +2,7 @@
 ghost use mathlib.Core.Path.{_≡_};
 ghost use mathlib.Core.Bool.{_&&_};
 ghost use lib.Dec.{leb};
-ghost use Rattle.plans.specs.Pieces.{downPlan, upPlan, readPlan, leftAs};
+ghost use Rattle.plans.specs.Pieces.{downNumberOf, upNumberOf, readPlan};
 use crate::answer::Answer;
 use crate::answer::give;
 use crate::answer::refuse;
@@ -17,52 +17,30 @@ pub(crate) fn is_site(n: u8, digit: u8) -> bool
     digit <= n
 }
 
-// The answer, and whether the site is up now.
-pub struct Turn {
-    pub answer: Answer,
-    pub up: bool,
-}
-
-// A site that is left up or down as it was.
-fn leave(number: u8, up: bool) -> Turn
-    ensures { λ r. ⌜ r ≡ leftAs number up ⌝ }
-{
-    Turn {
-        answer: refuse(number),
-        up,
-    }
-}
-
-// Step 5 at the site with this digit.
-pub fn down(n: u8, digit: u8, up: bool) -> Turn
-    ensures { λ r. ⌜ r ≡ downPlan n digit up ⌝ }
+// Step 5 at the site with this digit, its number.
+pub fn down_number(n: u8, digit: u8, up: bool) -> u8
+    ensures { λ r. ⌜ r ≡ downNumberOf n digit up ⌝ }
 {
     if !is_site(n, digit) {
-        return leave(3, up);
+        return 3;
     }
     if !up {
-        return leave(4, up);
+        return 4;
     }
-    Turn {
-        answer: give(0, 0),
-        up: false,
-    }
+    0
 }
 
-// Step 6 at the site with this digit.
-pub fn up(n: u8, digit: u8, up: bool) -> Turn
-    ensures { λ r. ⌜ r ≡ upPlan n digit up ⌝ }
+// Step 6 at the site with this digit, its number.
+pub fn up_number(n: u8, digit: u8, up: bool) -> u8
+    ensures { λ r. ⌜ r ≡ upNumberOf n digit up ⌝ }
 {
     if !is_site(n, digit) {
-        return leave(3, up);
+        return 3;
     }
     if up {
-        return leave(15, up);
+        return 15;
     }
-    Turn {
-        answer: give(0, 0),
-        up: true,
-    }
+    0
 }
 
 // Step 8: the reading of an item at the site with this digit, which is up or not and has this copy.

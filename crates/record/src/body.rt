@@ -36,13 +36,13 @@ pub fn begin_length(b: &[u8]) -> usize
     11 + 5 * (sets::count(base) as usize) + 4 * (sets::count(update) as usize)
 }
 
-// The stamps of the items in a set, 5 bytes each from a place on, items rising; 0 for the other items. What is left of the set gives up
-// its lowest item at each turn.
-fn stamps_from(b: &[u8], start: usize, set: u32) -> [u64; 24]
+// The stamps of the items in a set, 5 bytes each from a place on, items rising, into an array that is lent; 0 for the other items. What is
+// left of the set gives up its lowest item at each turn.
+fn fill_stamps(b: &[u8], start: usize, set: u32, r: &mut [u64; 24])
     requires { ⌜ (start < 2 ^ 16) × (set < 2 ^ 24) ⌝ }
-    ensures { λ r. ⌜ r ≡ byItem 0 (stampAt (now (b .entry))) start 5 set ⌝ }
+    ensures { λ _. ⌜ now (r .exit) ≡ byItem 0 (stampAt (now (b .entry))) start 5 set ⌝ }
 {
-    let mut r = [0u64; 24];
+    *r = [0u64; 24];
     let mut at = start;
     let mut left = set;
     while left != 0 {
@@ -51,15 +51,14 @@ fn stamps_from(b: &[u8], start: usize, set: u32) -> [u64; 24]
         at += 5;
         left = left & (left - 1);
     }
-    r
 }
 
 // The values of the items in a set, 4 bytes each, in the same way.
-fn values_from(b: &[u8], start: usize, set: u32) -> [i32; 24]
+fn fill_values(b: &[u8], start: usize, set: u32, r: &mut [i32; 24])
     requires { ⌜ (start < 2 ^ 16) × (set < 2 ^ 24) ⌝ }
-    ensures { λ r. ⌜ r ≡ byItem (pos 0) (valueAt (now (b .entry))) start 4 set ⌝ }
+    ensures { λ _. ⌜ now (r .exit) ≡ byItem (pos 0) (valueAt (now (b .entry))) start 4 set ⌝ }
 {
-    let mut r = [0i32; 24];
+    *r = [0i32; 24];
     let mut at = start;
     let mut left = set;
     while left != 0 {
@@ -68,23 +67,17 @@ fn values_from(b: &[u8], start: usize, set: u32) -> [i32; 24]
         at += 4;
         left = left & (left - 1);
     }
-    r
 }
 
-// A begin's stamps, which stand behind its sets.
-pub fn begin_stamps(b: &[u8]) -> [u64; 24]
-    ensures { λ r. ⌜ r ≡ beginStep (now (b .entry)) .stamps ⌝ }
-{
-    stamps_from(b, 11, word_at(b, 5, 3))
-}
-
-// A begin's values, which stand behind its stamps.
-pub fn begin_values(b: &[u8]) -> [i32; 24]
-    ensures { λ r. ⌜ r ≡ beginStep (now (b .entry)) .values ⌝ }
+// A begin's stamps, which stand behind its sets, and its values, which stand behind its stamps, into two arrays that are lent.
+pub fn begin_numbers<'a>(b: &[u8], stamps: &'a mut [u64; 24], values: &'a mut [i32; 24])
+    ensures stamps { λ _. ⌜ now (stamps .exit) ≡ beginStep (now (b .entry)) .stamps ⌝ }
+    ensures values { λ _. ⌜ now (values .exit) ≡ beginStep (now (b .entry)) .values ⌝ }
 {
     let base = word_at(b, 5, 3);
     let update = word_at(b, 8, 3);
-    values_from(b, 11 + 5 * (sets::count(base) as usize), update)
+    fill_stamps(b, 11, base, stamps);
+    fill_values(b, 11 + 5 * (sets::count(base) as usize), update, values);
 }
 
 // Begin: site, clock, base set, update set; then stamps by rising item and values by rising item, which are left where they are.

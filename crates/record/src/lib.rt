@@ -8,8 +8,7 @@ ghost use lib.Dec.{eqb};
 ghost use Rattle.record.specs.Bodies.{blankStep};
 ghost use Rattle.record.specs.Records.{bodyRead, refused, recordOf, briefOf};
 use crate::body::begin_length;
-use crate::body::begin_stamps;
-use crate::body::begin_values;
+use crate::body::begin_numbers;
 use crate::body::read_begin;
 use crate::body::read_one_place;
 use crate::body::read_one_site;
@@ -48,18 +47,19 @@ pub struct Record {
 }
 
 // A record without a begin's stamps and values, which no other step has: its number, where the next one starts, and the fields of its step.
+// Small fields stand between large ones, so that no two are stored in one word.
 pub struct Brief {
     pub number: u8,
     pub next: usize,
     pub code: u8,
-    pub site: u8,
-    pub to: u8,
-    pub item: u8,
-    pub place: u8,
     pub clock: u32,
-    pub stamp: u64,
+    pub site: u8,
     pub base: u32,
+    pub to: u8,
     pub update: u32,
+    pub item: u8,
+    pub stamp: u64,
+    pub place: u8,
 }
 
 // No step: every field 0.
@@ -159,26 +159,18 @@ fn end_of_begin(bytes: &[u8]) -> usize
     end
 }
 
-// Its stamps by item: those of a begin, and 0 where it is another step or refused.
-pub fn read_stamps(bytes: &[u8]) -> [u64; 24]
-    ensures { λ r. ⌜ r ≡ recordOf (now (bytes .entry)) .step .stamps ⌝ }
+// Its stamps and values by item, into two arrays that are lent: those of a begin, and 0 where it is another step or refused.
+pub fn read_numbers<'a>(bytes: &[u8], stamps: &'a mut [u64; 24], values: &'a mut [i32; 24])
+    ensures stamps { λ _. ⌜ now (stamps .exit) ≡ recordOf (now (bytes .entry)) .step .stamps ⌝ }
+    ensures values { λ _. ⌜ now (values .exit) ≡ recordOf (now (bytes .entry)) .step .values ⌝ }
 {
     let end = end_of_begin(bytes);
     if end == 0 {
-        return [0u64; 24];
+        *stamps = [0u64; 24];
+        *values = [0i32; 24];
+        return;
     }
-    begin_stamps(&bytes[3..end])
-}
-
-// Its values by item, in the same way.
-pub fn read_values(bytes: &[u8]) -> [i32; 24]
-    ensures { λ r. ⌜ r ≡ recordOf (now (bytes .entry)) .step .values ⌝ }
-{
-    let end = end_of_begin(bytes);
-    if end == 0 {
-        return [0i32; 24];
-    }
-    begin_values(&bytes[3..end])
+    begin_numbers(&bytes[3..end], stamps, values);
 }
 
 // The whole record.
@@ -186,8 +178,9 @@ pub fn read_record(bytes: &[u8]) -> Record
     ensures { λ r. ⌜ r ≡ recordOf (now (bytes .entry)) ⌝ }
 {
     let r = read_brief(bytes);
-    let stamps = read_stamps(bytes);
-    let values = read_values(bytes);
+    let mut stamps = [0u64; 24];
+    let mut values = [0i32; 24];
+    read_numbers(bytes, &mut stamps, &mut values);
     Record {
         number: r.number,
         next: r.next,

@@ -1,2 +1,3 @@
 -- What the layers above cite of stamps.
 pub mod Laws
+mod Tops

@@ -1,6 +1,5 @@
 // Stamps and priority.
 ghost use mathlib.Core.Path.{_≡_};
-ghost use mathlib.Core.Bool.{cond};
 ghost use Prim.Native.Nat.{_<_, _^_, max};
 ghost use Rattle.stamps.specs.Stamps.{stampOf, timeOf, digitOf, issuedForm, wellFormed, largestTime, nextTime, higher};
 ghost use Rattle.stamps.specs.Issue.{issued, issueNumber};
@@ -73,25 +72,29 @@ fn larger(a: u64, b: u64) -> u64
     if a < b { b } else { a }
 }
 
-// The largest so far and the t of one base stamp, if its item is in the base set.
-fn larger_if(taken: bool, top: u64, stamp: u64) -> u64
-    ensures { λ r. ⌜ r ≡ cond taken (max top (timeOf stamp)) top ⌝ }
+// The larger of the largest so far and the t of one base stamp.
+fn larger_time(top: u64, stamp: u64) -> u64
+    ensures { λ r. ⌜ r ≡ max top (timeOf stamp) ⌝ }
     ensures small { λ r. ⌜ (top < 2 ^ 61 → r < 2 ^ 61) ⌝ }
 {
-    if taken {
-        return larger(top, time_of(stamp));
-    }
-    top
+    larger(top, time_of(stamp))
 }
 
-// The largest t in the base stamps of the base items. No t of a stamp has more than 61 bits, so there is room for 1 more.
+// The largest t in the base stamps of the base items. No t of a stamp has more than 61 bits, so there is room for 1 more. What is left of the
+// base set gives up its lowest item at each turn.
 pub fn largest_time(base: u32, stamps: &[u64; 24]) -> u64
     ensures { λ r. ⌜ r ≡ largestTime base (now (stamps .entry)) ⌝ }
     ensures small { λ r. ⌜ r < 2 ^ 61 ⌝ }
 {
     let mut m: u64 = 0;
-    for i in 0..24 {
-        m = larger_if(sets::has(base, i), m, stamps[i]);
+    let mut left = base;
+    while left != 0 {
+        let item = u32::trailing_zeros(left) as usize;
+        if 23 < item {
+            return m;
+        }
+        m = larger_time(m, stamps[item]);
+        left = left & (left - 1);
     }
     m
 }

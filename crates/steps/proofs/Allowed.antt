@@ -20,7 +20,7 @@ use Rattle.steps.specs.Numbers.{noSuchSite, isDown, freePlace, freeMessa
 use Rattle.steps.specs.Steps.{issueFor}
 
 -- a number that does not apply, and the rest of the list
-passed : (b : Bool) (n m : ℕ) → eqb n 0 ≡ false → cond b n m ≡ 0 → (b ≡ false) × (m ≡ 0)
+pub passed : (b : Bool) (n m : ℕ) → eqb n 0 ≡ false → cond b n m ≡ 0 → (b ≡ false) × (m ≡ 0)
 passed true n m ne e = absurd (eqb-false n 0 ne e)
 passed false n m ne e = (refl, e)
 

@@ -1,417 +1,378 @@
--- The step by its code: its plan carried out is the step on the whole table. A law for each code.
+-- The step by its code, on the rows of a table: what each does to the rows is what it does to the table.
 use Prim.Native.Nat.{ℕ, _-_, _<_, _≤_}
-use mathlib.Core.Bool.{Bool, true, false, not, _&&_, cond}
-use mathlib.Core.List.{List}
+use mathlib.Core.Bool.{Bool, true, false, not, _&&_, _||_, cond}
+use mathlib.Core.List.{List, []}
 use mathlib.Core.Path.{_≡_, refl, sym, ap, _∙_}
 use native.Mathlib.Omega.{arith}
-use borrow.Author.Tests.{eq-eqb, ne-eqb, eqb-true, eqb-false, ltb-true, lt-ltb, le-ltb}
+use borrow.Author.Tests.{eq-eqb, ne-eqb, eqb-true, eqb-false, leb-true, ltb-true, lt-ltb, le-ltb, not-true, not-false}
 use lib.Dec.{eqb, leb, ltb}
-use lib.IntN.{pos}
-use lib.ListN.{length, getD, set, replicate, List·getD-eq-default}
-use lib.Seq.{set-getD}
-use Rattle.kit.proofs.Bools.{by-test, by-lt, and-left}
-use Rattle.kit.proofs.Listings.{listed-same}
+use lib.IntN.{ℤ, pos}
+use lib.ListN.{length, getD, set, replicate, length-set}
+use Rattle.kit.proofs.Bools.{by-test, by-lt, and-left, and-right, or-left, or-right}
+use Rattle.kit.proofs.Listings.{listed-same, length-listed}
+use Rattle.kit.proofs.Ranges.{first-hit, first-none, first-le}
 use Rattle.kit.specs.Lists.{listed, changed}
+use Rattle.kit.specs.Range.{any, first}
 use Rattle.plans.proofs.Found.{within-low}
+use Rattle.plans.proofs.Posting.{message-put, free-message-is, free-taken, free-given}
+use Rattle.plans.proofs.Opening.{length-sites, site-put, sites-up, sites-last, sites-forgot, held-back-is}
 use Rattle.plans.specs.Answers.{refusal, results}
-use Rattle.plans.specs.Changes.{messageFrom, forgotten, stored}
-use Rattle.plans.specs.Pieces.{within, usedOf, messageFor, siteFor, placeFor, tellNumberOf, tellPlan, dropNumberOf, dropPlan, noMessageThere, deliverNumberOf, issueAt, beginNumberOf, beginPlan, downNumberOf, downPlan, upNumberOf, upPlan, heldBack, retireNumberOf, readNumberOf, readPlan}
-use Rattle.plans.specs.Plans.{plainly, begins, hands, frees, planOf}
+use Rattle.plans.specs.Changes.{messageOf, forgotten, stored, votesForgotten, votersForgotten}
+use Rattle.plans.specs.Letters.{letterOf, isLetter, letterFrom, freeSet, withoutPlace, withPlace, messagesFrom}
+use Rattle.plans.specs.Opened.{siteFrom, sitesFrom}
+use Rattle.plans.specs.Pieces.{within, siteIndex, freeIn, placeIn, freeMessageIn, noSuchDigit, noMessageThere, tellNumberOf, dropNumberOf, deliverNumberOf, issueAt, beginNumberOf, beginPlan, downNumberOf, upNumberOf, heldBack, heldBackBy, retireNumberOf, readNumberOf, readPlan}
 use Rattle.plans.specs.declared.answer.Answer.{Answer}
-use Rattle.plans.specs.declared.plan.Plan.{Plan}
+use Rattle.plans.specs.declared.begin.Begun.{Begun}
 use Rattle.record.specs.declared.Step.{Step}
-use Rattle.stamps.specs.Issue.{issueStamp, issueLast}
-use Rattle.table.specs.Fresh.{blankMessage}
-use Rattle.table.specs.Places.{noSite, noMessage, siteAt, messageAt, withSite, withSites, withRequest, withMessage}
-use Rattle.table.specs.declared.data.Message.{Message}
-use Rattle.table.specs.declared.data.Table.{Table}
 use Rattle.sets.proofs.Laws.{member-none}
 use Rattle.sets.specs.Sets.{member}
-use Rattle.vote.specs.Data.{noHead, blankRequest, headsOf, requestOf, withLast, withUp}
-use Rattle.vote.specs.declared.data.Head.{Head}
+use Rattle.stamps.specs.Issue.{issueStamp, issueLast}
+use Rattle.table.specs.Fresh.{blankMessage}
+use Rattle.table.specs.Places.{noSite, noMessage, siteAt, messageAt, markAt, verdictAt, withSite, withSites, withRequest, withMessage}
+use Rattle.table.specs.declared.data.Message.{Message}
+use Rattle.table.specs.declared.data.Table.{Table}
+use Rattle.vote.specs.Data.{isOk, isOther, isOpen, noHead, noVote, voteAt, blankRequest, requestOf, withLast, withUp, headsFrom}
+use Rattle.vote.specs.Notes.{siteOf}
+use Rattle.vote.specs.Numbers.{votesFrom, notesFrom, verdictFrom}
 use Rattle.vote.specs.declared.data.Site.{Site}
+use Rattle.vote.specs.declared.data.Vote.{Vote}
+use Rattle.walk.proofs.TakenApart.{parts-set, length-row}
 use Rattle.walk.specs.Hearing.{takenUp, received}
-use Rattle.walk.specs.Parts.{storedRow}
-use Rattle.walk.specs.Walking.{Out, accepts, rejects}
-use Rattle.steps.specs.Answers.{steppedAs}
+use Rattle.walk.specs.Parts.{requestsFrom, withRow, storedRow}
+use Rattle.walk.specs.Walking as walking
+use Rattle.walk.specs.Walking.{accepts, rejects, left}
+use Rattle.walk.specs.declared.walking.Settled as code
+use Rattle.steps.specs.Answers.{Done, steppedAs, refusedAs}
 use Rattle.steps.specs.Numbers.{noSuchSite, freePlace, freeMessage, placeOf, cannotTell, noMessageAt, cannotRetire, beginNumber, tellNumber, deliverNumber, dropNumber, downNumber, upNumber, retireNumber, readNumber}
-use Rattle.steps.specs.Steps.{entered, begun, told, delivered, dropped, putUp, retired, readings, advanced}
+use Rattle.steps.specs.Opened.{SiteRows, RequestRows, MessageRows, tableFrom, siteRows, requestRows, messageRows, LongRequests, LongMessages}
+use Rattle.steps.specs.Steps.{unlessRefused, entered, begun, told, delivered, dropped, putUp, retired, readings}
 use Rattle.steps.specs.declared.answer.Stepped.{Stepped}
-use Rattle.steps.proofs.Advancing.{code-1, code-2, code-3, code-4, code-5, code-6, code-7, code-8, code-none}
-use Rattle.steps.proofs.Allowed.{site-index, free-place, free-message, message-there, may-begin, may-tell, may-deliver, may-drop, may-down, may-up, may-read, may-retire, named-place, MayTell, MayBegin, MayRetire}
-use Rattle.steps.proofs.Summaries.{free-place-is, place-of-is, free-message-is}
-
--- a table of at most 7 sites, its lists as long as the arrays in memory, and its two summaries
-pub record Held (t : Table) (heads : List Head) (used : List Bool) : Type 0 where
-  pub few : t .count ≤ 7
-  pub sites : length (t .sites) ≡ 7
-  pub requests : length (t .requests) ≡ 16
-  pub messages : length (t .messages) ≡ 64
-  pub heads-are : heads ≡ headsOf (t .requests)
-  pub used-are : used ≡ usedOf (t .messages)
-
--- ---- where the pieces are
-
-pub record Aimed (t : Table) (a : Step) (heads : List Head) (used : List Bool) (j x k p i : ℕ) : Type 0 where
-  pub held : Held t heads used
-  pub message : j ≡ cond (eqb (a .code) 2) (freeMessage t) (a .place)
-  pub message-at : x ≡ within j 63
-  pub site : k ≡ siteFor (a .code) (a .site) (messageAt t x .to)
-  pub place : p ≡ cond (eqb (a .code) 1) (freePlace t) (cond (eqb (a .code) 3) (messageAt t x .request) (placeOf t (a .stamp)))
-  pub place-at : i ≡ within p 15
-
-pub aim-is
-    : (t : Table) (a : Step) {heads : List Head} {used : List Bool} {j x k p i y z : ℕ} → Held t heads used → j ≡ messageFor (a .code) used (a .place) → y ≡ j → x ≡ within y 63
-    → k ≡ siteFor (a .code) (a .site) (messageAt t x .to) → p ≡ placeFor (a .code) heads (a .stamp) (messageAt t x .request) → z ≡ p → i ≡ within z 15
-    → Aimed t a heads used j x k p i
-unfolding messageFor placeFor
-aim-is t a held hj hy hx hk hp hz hi = record {
-  held = held;
-  message = rw (held .used-are, free-message-is t) at hj;
-  message-at = rw hy at hx;
-  site = hk;
-  place = rw (held .heads-are, free-place-is t, place-of-is t (a .stamp)) at hp;
-  place-at = rw hz at hi;
-}
-
--- ---- tests
-
--- the smallest number of a deliver is 0: neither test holds
-neither-holds : (b c : Bool) → _≡_ {A = ℕ} (cond (not b && not c) 4 (cond b 13 0)) 0 → (b ≡ false) × (c ≡ true)
-neither-holds true c e = absurd (let z : _≡_ {A = ℕ} 13 0 = e in let y : ⊥ = omega arith in y)
-neither-holds false true e = (refl, refl)
-neither-holds false false e = absurd (let z : _≡_ {A = ℕ} 4 0 = e in let y : ⊥ = omega arith in y)
-
--- there is no such site
-no-site : (t : Table) (k : ℕ) → length (t .sites) ≡ 7 → 7 ≤ k → siteAt t k .up ≡ false
-no-site t k l h = ap (λ (s : Site). s .up) (List·getD-eq-default (t .sites) noSite (omega arith))
-
--- what a plan leaves as it was
-site-kept : (t : Table) (k : ℕ) → withSite k (siteAt t k) t ≡ t
-site-kept t k = rw (set-getD (t .sites) k noSite)
-
-message-kept : (t : Table) (x : ℕ) → withMessage x (messageAt t x) t ≡ t
-message-kept t x = rw (set-getD (t .messages) x noMessage)
-
-unturned : (t : Table) (x k : ℕ) → withSite k (siteAt t k) (withMessage x (messageAt t x) t) ≡ t
-unturned t x k = rw (set-getD (t .sites) k noSite, set-getD (t .messages) x noMessage)
-
--- ---- a plan carried out
-
--- its message at place x; whether site k is up, and its last t
-abbrev pub turned : ℕ → ℕ → Plan → Table → Table
-turned x k c t = let u : Table = withMessage x (c .message) t in withSite k (withLast (c .last) (withUp (c .up) (siteAt u k))) u
-
--- its request at place i, with the numbers of the step
-abbrev pub keeps : ℕ → Step → Plan → Table → Table
-keeps i a c t =
-    cond (c .stores)
-    (withRequest i (requestOf (c .head) (storedRow 0 (c .head .base) (a .stamps)) (storedRow (pos 0) (c .head .update) (a .values))) t)
-    t
-
--- place p forgotten
-abbrev pub loses : ℕ → Plan → Table → Table
-loses p c t = cond (c .forgets) (withSites (changed 7 (forgotten p) (t .sites)) t) t
-
--- what site k makes of the request at place p, which it has begun, or of which the message m comes
-abbrev pub heardAt : Step → ℕ → ℕ → Message → Table → Out
-heardAt a k p m t =
-    cond (eqb (a .code) 1) (takenUp k (t .count) (t .requests) (siteAt t k) p)
-    (received k (t .count) (t .requests) (siteAt t k) p (m .verdict) (m .oks) (m .others))
-
--- its answer with what was accepted and rejected
-abbrev pub counting : Answer → Out → Answer
-counting w out = record { number = w .number; first = w .first; second = w .second; accepted = accepts (out .log); rejected = rejects (out .log) }
-
--- where the site attends to it
-abbrev pub attended : Step → ℕ → ℕ → Message → Plan → Table → Stepped
-attended a k p m c t =
-    cond (c .attends) (record { answer = counting (c .answer) (heardAt a k p m t); table = withSite k (heardAt a k p m t .site) t })
-    (record { answer = c .answer; table = t })
-
--- all of it
-unfoldable pub carried : Table → Step → ℕ → ℕ → ℕ → ℕ → Plan → Stepped
-carried t a x k p i c = attended a k p (messageAt t x) c (loses p c (keeps i a c (turned x k c t)))
-
--- nothing but an answer and a message
-plain : (t : Table) (a : Step) (x k p i : ℕ) (w : Answer) (m : Message) → carried t a x k p i (plainly w m (siteAt t k .up) (siteAt t k .last)) ≡ record { answer = w; table = withMessage x m t }
-unfolding carried
-plain t a x k p i w m = rw (site-kept (withMessage x m t) k)
-
--- nothing but an answer
-plainer : (t : Table) (a : Step) (x k p i : ℕ) (w : Answer) → carried t a x k p i (plainly w (messageAt t x) (siteAt t k .up) (siteAt t k .last)) ≡ record { answer = w; table = t }
-plainer t a x k p i w = plain t a x k p i w (messageAt t x) ∙ rw (message-kept t x)
-
--- a site turned up or down
-switched : (t : Table) (a : Step) (x k p i : ℕ) (w : Answer) (up : Bool) → carried t a x k p i (plainly w (messageAt t x) up (siteAt t k .last)) ≡ record { answer = w; table = withSite k (withUp up (siteAt t k)) t }
-unfolding carried
-switched t a x k p i w up = rw (set-getD (t .messages) x noMessage)
+use Rattle.steps.proofs.Allowed.{passed, site-index, free-place, free-message, message-there, may-begin, may-tell, may-deliver, may-drop, may-down, may-up, may-read, may-retire, named-place, MayTell, MayBegin, MayRetire}
+use Rattle.steps.proofs.Rows.{site-at, free-place-of, place-of, message-at, free-message-of}
 
 -- no item of the empty set is stored
 stored-none : {A : Type 0} (d : A) (l : List A) → listed 24 (λ i. cond (member 0 i) (getD l i d) d) ≡ replicate 24 d
 unfolding listed
 stored-none d l = listed-same 24 (λ i. cond (member 0 i) (getD l i d) d) (λ i. d) (λ i h. rw (member-none i))
 
-module _ {t : Table} {a : Step} {heads : List Head} {used : List Bool} {j x k p i : ℕ} (h : Aimed t a heads used j x k p i) where
-  -- ---- which pieces they are, by the code
+-- refused where a number applies, else done
+pub refused-is : (d : Done) {number k : ℕ} {t : Table} {w : Answer} → number ≡ k → (number ≡ 0 → ⊥) → w ≡ refusal number → record { answer = w; table = t } ≡ unlessRefused k d t
+refused-is d {number} e ne hw = rw (hw, ← e, ne-eqb number 0 ne)
 
-  site-is : (a .code ≡ 3 → ⊥) → noSuchSite t (a .site) ≡ false → k ≡ a .site - 1
-  unfolding siteFor
-  site-is e y =
-      let r = site-index t (a .site) y in
-      let f : t .count ≤ 7 = h .held .few in
-      (rw (ne-eqb (a .code) 3 e) at (h .site)) ∙ sym (within-low (a .site - 1) 6 (omega (arith, r .0)))
+pub done-is : (d : Done) (t : Table) {number k : ℕ} {z : Stepped} → number ≡ k → number ≡ 0 → z ≡ steppedAs d → z ≡ unlessRefused k d t
+done-is d t e zero-is hz = rw (← e, zero-is) hz
 
-  place-free : a .code ≡ 1 → p ≡ freePlace t
-  place-free e = rw (eq-eqb (a .code) 1 e) at (h .place)
+-- ---- the rows with some of them changed
 
-  place-stamped : (a .code ≡ 1 → ⊥) → (a .code ≡ 3 → ⊥) → p ≡ placeOf t (a .stamp)
-  place-stamped e f = rw (ne-eqb (a .code) 1 e, ne-eqb (a .code) 3 f) at (h .place)
+abbrev pub withUps : List Bool → SiteRows → SiteRows
+withUps us s = siteRows us (s .lasts) (s .stamps) (s .values) (s .votes) (s .queues) (s .waitings) (s .oks) (s .others)
 
-  place-low : p < 16 → i ≡ p
-  place-low l = h .place-at ∙ sym (within-low p 15 (omega arith))
+abbrev pub withLasts : List ℕ → SiteRows → SiteRows
+withLasts ls s = siteRows (s .ups) ls (s .stamps) (s .values) (s .votes) (s .queues) (s .waitings) (s .oks) (s .others)
 
-  message-given : (a .code ≡ 2 → ⊥) → j ≡ a .place
-  message-given e = rw (ne-eqb (a .code) 2 e) at (h .message)
+-- ---- the free message places
 
-  message-low : j < 64 → x ≡ j
-  message-low l = h .message-at ∙ sym (within-low j 63 (omega arith))
+-- the lowest free one is free
+free-there : (l : List (List ℕ)) → freeMessageIn (freeSet l) < 64 → isLetter (getD l (freeMessageIn (freeSet l)) []) ≡ false
+free-there l h =
+    let f : ℕ → Bool = λ j. not (isLetter (getD l j [])) in
+    by-test (any 64 f) (λ y. rw (free-message-is l) (not-true _ (first-hit 64 f y .1)))
+    (λ y. absurd (let z : first 64 f ≡ 64 = first-none 64 f y in let w : ⊥ = omega (arith, free-message-is l) in w))
 
-  -- a test of the message there
-  message-test : j ≡ a .place → (ltb j 64 && messageAt t x .used) ≡ (ltb (a .place) 64 && messageAt t (a .place) .used)
-  message-test e = by-lt j 64 (λ l. rw (message-low l, e)) (λ l. rw (← e, le-ltb j 64 l))
+module _ (l : List (List ℕ)) {free x r : ℕ} (row : List ℕ) (long : length l ≡ 64) (hf : free ≡ freeSet l) (low : x < 64) where
+  pub place-taken : x ≡ freeMessageIn free → isLetter row ≡ true → r ≡ cond (ltb x 64) (withoutPlace free x) free → r ≡ freeSet (set l x row)
+  place-taken hx is hr =
+      let y : isLetter (getD l x []) ≡ false = rw (hx, hf) (free-there l (rw (← hf, ← hx) low)) in
+      hr ∙ rw (lt-ltb x 64 low, hf) (free-taken l low long row y is)
 
-  -- ---- 2 tell
+  pub place-given : isLetter (getD l x []) ≡ true → isLetter row ≡ false → r ≡ cond (ltb x 64) (withPlace free x) free → r ≡ freeSet (set l x row)
+  place-given was is hr = hr ∙ rw (lt-ltb x 64 low, hf) (free-given l low long row was is)
 
-  tell-number : a .code ≡ 2 → tellNumberOf (t .count) (a .site) (a .to) (siteAt t k .up) (siteAt t k .votes) p j ≡ tellNumber t a
-  unfolding tellNumberOf tellNumber cannotTell
-  tell-number e =
-      let p-is : p ≡ placeOf t (a .stamp) = place-stamped (λ z. omega arith) (λ z. omega arith) in
-      let j-is : j ≡ freeMessage t = rw (eq-eqb (a .code) 2 e) at (h .message) in
-      by-test (leb 1 (a .site) && leb (a .site) (t .count))
-      (λ y. rw (y, site-is (λ z. omega arith) (rw y), p-is, j-is)) (λ y. rw y)
+-- ---- where no number applies
 
-  tell-done : a .code ≡ 2 → MayTell t a → _≡_ {A = Stepped} (record { answer = results (pos j) 0 0 0; table = withMessage x (messageFrom (siteAt t k) p (a .site - 1) (a .to - 1)) t }) (steppedAs (told t a))
-  unfolding told accepts rejects
-  tell-done e m =
-      let j-is : j ≡ freeMessage t = rw (eq-eqb (a .code) 2 e) at (h .message) in
-      let l : j < 64 = rw j-is (free-message t (m .message)) in
-      rw (message-low l, j-is, place-stamped (λ z. omega arith) (λ z. omega arith), site-is (λ z. omega arith) (m .from))
+-- to a drop: the place is used
+pub used-there : {j number : ℕ} {b : Bool} → number ≡ dropNumberOf j b → number ≡ 0 → (j < 64) × (b ≡ true)
+unfolding dropNumberOf
+used-there {j} {number} {b} e z =
+    let h : (ltb j 64 && b) ≡ true = not-false _ (passed (noMessageThere j b) 13 0 refl (sym e ∙ z) .0) in
+    (ltb-true j 64 (and-left (ltb j 64) b h), and-right (ltb j 64) b h)
 
-  tell-arm
-      : a .code ≡ 2
-      → _≡_ {A = Stepped}
-      (record {
-        answer = tellPlan (t .count) (a .site) (a .to) (siteAt t k .up) (siteAt t k .votes) (siteAt t k .oks) (siteAt t k .others) p j (messageAt t x) .answer;
-        table = withMessage x (tellPlan (t .count) (a .site) (a .to) (siteAt t k .up) (siteAt t k .votes) (siteAt t k .oks) (siteAt t k .others) p j (messageAt t x) .message) t;
-      })
-      (advanced t a)
-  unfolding tellPlan
-  tell-arm e =
-      code-2 t a e
-      (rw (tell-number e)
-      (by-test (eqb (tellNumber t a) 0) (λ y. rw y (tell-done e (may-tell t a (eqb-true _ _ y)))) (λ y. rw (y, message-kept t x))))
+-- to a tell: both sites are named by digits, and a message place is free
+module _ (n from to p j : ℕ) (up : Bool) (v : Vote) {number : ℕ} (e : number ≡ tellNumberOf n from to up v p j) (z : number ≡ 0) where
+  tell-passed : ((noSuchDigit n from || noSuchDigit n to) ≡ false) × (eqb j 64 ≡ false)
+  unfolding tellNumberOf
+  tell-passed =
+      let r1 = passed (noSuchDigit n from || noSuchDigit n to) 3 _ refl (sym e ∙ z) in
+      let r2 = passed (not up) 4 _ refl (r1 .1) in
+      let r3 = passed (eqb p 16) 10 _ refl (r2 .1) in
+      let r4 = passed (not ((isOk (v .mark) || isOther (v .mark)) || not (isOpen (v .verdict))) || eqb from to) 11 _ refl (r3 .1) in
+      (r1 .0, passed (eqb j 64) 12 0 refl (r4 .1) .0)
 
-  -- ---- 4 drop
+  pub tell-from : 1 ≤ from
+  tell-from = leb-true 1 from (and-left (leb 1 from) (leb from n) (not-false _ (or-left (noSuchDigit n from) (noSuchDigit n to) (tell-passed .0))))
 
-  drop-number : a .code ≡ 4 → dropNumberOf j (messageAt t x) ≡ dropNumber t a
-  unfolding dropNumberOf dropNumber noMessageAt
-  drop-number e = rw (message-test (message-given (λ z. omega arith)))
+  pub tell-to : 1 ≤ to
+  tell-to = leb-true 1 to (and-left (leb 1 to) (leb to n) (not-false _ (or-right (noSuchDigit n from) (noSuchDigit n to) (tell-passed .0))))
 
-  drop-done : a .code ≡ 4 → a .place < 64 → _≡_ {A = Stepped} (record { answer = results (pos 0) 0 0 0; table = withMessage x blankMessage t }) (steppedAs (dropped t a))
-  unfolding dropped accepts rejects
-  drop-done e l = let j-is : j ≡ a .place = message-given (λ z. omega arith) in rw (message-low (rw j-is l), j-is)
+  pub tell-low : (free : ℕ) → j ≡ freeMessageIn free → j < 64
+  unfolding freeMessageIn
+  tell-low free hj = let l = first-le 64 (member free) in let ne = eqb-false j 64 (tell-passed .1) in omega (arith, ne, hj)
 
-  drop-arm : a .code ≡ 4 → _≡_ {A = Stepped} (record { answer = dropPlan j (messageAt t x) .answer; table = withMessage x (dropPlan j (messageAt t x) .message) t }) (advanced t a)
-  unfolding dropPlan
-  drop-arm e =
-      code-4 t a e
-      (rw (drop-number e)
-      (by-test (eqb (dropNumber t a) 0) (λ y. rw y (drop-done e (message-there t (a .place) (may-drop t a (eqb-true _ _ y)) .0))) (λ y. rw (y, message-kept t x))))
+-- ---- rows stay as long as they are
+
+pub long-put
+    : {m : MessageRows} {ls : List (List ℕ)} {os ts : List (List Bool)} (x : ℕ) (a : List ℕ) (b c : List Bool) → LongMessages m → ls ≡ set (m .letters) x a → os ≡ set (m .oks) x b → ts ≡ set (m .others) x c
+    → LongMessages (messageRows ls os ts)
+long-put {m} x a b c l h1 h2 h3 = record {
+  letters = rw h1 (length-set (m .letters) x a ∙ l .letters);
+  oks = rw h2 (length-set (m .oks) x b ∙ l .oks);
+  others = rw h3 (length-set (m .others) x c ∙ l .others);
+}
+
+pub long-stored
+    : {q : RequestRows} {ds : List ℕ} {vs : List ℤ} → LongRequests q → (i x y z : ℕ) (b : List ℕ) (v : List ℤ) → ds ≡ withRow 0 (q .based) i b → vs ≡ withRow (pos 0) (q .news) i v
+    → LongRequests (requestRows (set (q .names) i x) (set (q .bases) i y) (set (q .updates) i z) ds vs)
+long-stored {q} l i x y z b v hb hv = record {
+  names = length-set (q .names) i x ∙ l .names;
+  bases = length-set (q .bases) i y ∙ l .bases;
+  updates = length-set (q .updates) i z ∙ l .updates;
+  based = rw hb (length-row 0 (q .based) i b ∙ l .based);
+  news = rw hv (length-row (pos 0) (q .news) i v ∙ l .news);
+}
+
+-- ---- which pieces a step is about
+
+module _ (n : ℕ) (few : n ≤ 7) (s : SiteRows) (q : RequestRows) (m : MessageRows) (a : Step) where
+  abbrev T₁ : Table
+  T₁ = tableFrom n s q m
+
+  -- the site that acts
+  pub site-is : noSuchDigit n (a .site) ≡ false → (siteIndex (a .site) ≡ a .site - 1) × (a .site - 1 < 7)
+  unfolding siteIndex tableFrom
+  site-is y = let r = site-index T₁ (a .site) y in (sym (within-low (a .site - 1) 6 (omega (arith, r .0, few))), omega (arith, r .0, few))
 
   -- ---- 5, 6 down, up
 
-  down-number : a .code ≡ 5 → downNumberOf (t .count) (a .site) (siteAt t k .up) ≡ downNumber t a
-  unfolding downNumberOf downNumber
-  down-number e = by-test (leb 1 (a .site) && leb (a .site) (t .count)) (λ y. rw (y, site-is (λ z. omega arith) (rw y))) (λ y. rw y)
+  down-number : downNumberOf n (a .site) (getD (s .ups) (siteIndex (a .site)) false) ≡ downNumber T₁ a
+  unfolding downNumberOf downNumber tableFrom
+  down-number =
+      by-test (leb 1 (a .site) && leb (a .site) n) (λ y. let r = site-is (rw y) in rw (y, r .0, site-at n s q m (a .site - 1) (r .1))) (λ y. rw y)
 
-  up-number : a .code ≡ 6 → upNumberOf (t .count) (a .site) (siteAt t k .up) ≡ upNumber t a
-  unfolding upNumberOf upNumber
-  up-number e = by-test (leb 1 (a .site) && leb (a .site) (t .count)) (λ y. rw (y, site-is (λ z. omega arith) (rw y))) (λ y. rw y)
+  up-number : upNumberOf n (a .site) (getD (s .ups) (siteIndex (a .site)) false) ≡ upNumber T₁ a
+  unfolding upNumberOf upNumber tableFrom
+  up-number =
+      by-test (leb 1 (a .site) && leb (a .site) n) (λ y. let r = site-is (rw y) in rw (y, r .0, site-at n s q m (a .site - 1) (r .1))) (λ y. rw y)
 
-  put-up-is : (up : Bool) → k ≡ a .site - 1 → _≡_ {A = Stepped} (record { answer = results (pos 0) 0 0 0; table = withSite k (withUp up (siteAt t k)) t }) (steppedAs (putUp up t a))
-  unfolding putUp accepts rejects
-  put-up-is up e = rw e
+  turned-is
+      : (up : Bool) → length (s .ups) ≡ 7 → noSuchDigit n (a .site) ≡ false
+      → _≡_ {A = Stepped} (record { answer = refusal 0; table = tableFrom n (withUps (set (s .ups) (siteIndex (a .site)) up) s) q m }) (steppedAs (putUp up T₁ a))
+  unfolding putUp accepts rejects tableFrom
+  turned-is up l y =
+      let r = site-is y in
+      rw (r .0, sites-up (s .ups) (s .lasts) (s .stamps) (s .values) (s .votes) (s .queues) (s .waitings) (s .oks) (s .others) (a .site - 1) up (r .1) l)
 
-  down-arm
-      : a .code ≡ 5
-      → _≡_ {A = Stepped}
-      (record { answer = downPlan (t .count) (a .site) (siteAt t k .up) .answer; table = withSite k (withUp (downPlan (t .count) (a .site) (siteAt t k .up) .up) (siteAt t k)) t })
-      (advanced t a)
-  unfolding downPlan
-  down-arm e =
-      code-5 t a e
-      (rw (down-number e)
-      (by-test (eqb (downNumber t a) 0) (λ y. rw y (put-up-is false (site-is (λ z. omega arith) (may-down t a (eqb-true _ _ y))))) (λ y. rw (y, site-kept t k))))
+  module _ {number : ℕ} {w : Answer} where
+    pub down-refused : number ≡ downNumberOf n (a .site) (getD (s .ups) (siteIndex (a .site)) false) → (number ≡ 0 → ⊥) → w ≡ refusal number → record { answer = w; table = T₁ } ≡ unlessRefused (downNumber T₁ a) (putUp false T₁ a) T₁
+    down-refused e ne hw = refused-is (putUp false T₁ a) (e ∙ down-number) ne hw
 
-  up-arm
-      : a .code ≡ 6
-      → _≡_ {A = Stepped}
-      (record { answer = upPlan (t .count) (a .site) (siteAt t k .up) .answer; table = withSite k (withUp (upPlan (t .count) (a .site) (siteAt t k .up) .up) (siteAt t k)) t })
-      (advanced t a)
-  unfolding upPlan
-  up-arm e =
-      code-6 t a e
-      (rw (up-number e)
-      (by-test (eqb (upNumber t a) 0) (λ y. rw y (put-up-is true (site-is (λ z. omega arith) (may-up t a (eqb-true _ _ y))))) (λ y. rw (y, site-kept t k))))
+    pub down-done
+        : number ≡ downNumberOf n (a .site) (getD (s .ups) (siteIndex (a .site)) false) → number ≡ 0 → length (s .ups) ≡ 7 → w ≡ refusal 0
+        → record { answer = w; table = tableFrom n (withUps (set (s .ups) (siteIndex (a .site)) false) s) q m } ≡ unlessRefused (downNumber T₁ a) (putUp false T₁ a) T₁
+    unfolding tableFrom
+    down-done e z l hw = done-is (putUp false T₁ a) T₁ (e ∙ down-number) z (rw hw (turned-is false l (may-down T₁ a (sym (e ∙ down-number) ∙ z))))
+
+    pub up-refused : number ≡ upNumberOf n (a .site) (getD (s .ups) (siteIndex (a .site)) false) → (number ≡ 0 → ⊥) → w ≡ refusal number → record { answer = w; table = T₁ } ≡ unlessRefused (upNumber T₁ a) (putUp true T₁ a) T₁
+    up-refused e ne hw = refused-is (putUp true T₁ a) (e ∙ up-number) ne hw
+
+    pub up-done
+        : number ≡ upNumberOf n (a .site) (getD (s .ups) (siteIndex (a .site)) false) → number ≡ 0 → length (s .ups) ≡ 7 → w ≡ refusal 0
+        → record { answer = w; table = tableFrom n (withUps (set (s .ups) (siteIndex (a .site)) true) s) q m } ≡ unlessRefused (upNumber T₁ a) (putUp true T₁ a) T₁
+    unfolding tableFrom
+    up-done e z l hw = done-is (putUp true T₁ a) T₁ (e ∙ up-number) z (rw hw (turned-is true l (may-up T₁ a (sym (e ∙ up-number) ∙ z))))
 
   -- ---- 8 read
 
-  read-number : a .code ≡ 8 → readNumberOf (t .count) (a .site) (siteAt t k .up) (a .item) ≡ readNumber t a
-  unfolding readNumberOf readNumber
-  read-number e = by-test (leb 1 (a .site) && leb (a .site) (t .count)) (λ y. rw (y, site-is (λ z. omega arith) (rw y))) (λ y. rw y)
+  read-number : readNumberOf n (a .site) (getD (s .ups) (siteIndex (a .site)) false) (a .item) ≡ readNumber T₁ a
+  unfolding readNumberOf readNumber tableFrom
+  read-number =
+      by-test (leb 1 (a .site) && leb (a .site) n) (λ y. let r = site-is (rw y) in rw (y, r .0, site-at n s q m (a .site - 1) (r .1))) (λ y. rw y)
 
-  read-arm
-      : a .code ≡ 8
-      → _≡_ {A = Stepped} (record { answer = readPlan (t .count) (a .site) (siteAt t k .up) (siteAt t k .stamps) (siteAt t k .values) (a .item); table = t }) (advanced t a)
-  unfolding readPlan readings accepts rejects
-  read-arm e =
-      code-8 t a e
-      (rw (read-number e)
-      (by-test (eqb (readNumber t a) 0) (λ y. rw (y, site-is (λ z. omega arith) (may-read t a (eqb-true _ _ y)))) (λ y. rw y)))
+  pub read-arm
+      : {w : Answer} → w ≡ readPlan n (a .site) (getD (s .ups) (siteIndex (a .site)) false) (getD (s .stamps) (siteIndex (a .site)) []) (getD (s .values) (siteIndex (a .site)) []) (a .item)
+      → record { answer = w; table = T₁ } ≡ unlessRefused (readNumber T₁ a) (readings T₁ a) T₁
+  unfolding readPlan readings accepts rejects tableFrom
+  read-arm hw =
+      rw (hw, read-number)
+      (by-test (eqb (readNumber T₁ a) 0)
+      (λ y. let r = site-is (may-read T₁ a (eqb-true _ _ y)) in rw (y, r .0, site-at n s q m (a .site - 1) (r .1)))
+      (λ y. rw y))
 
-  -- ---- 3 deliver
+  -- ---- 2 tell
 
-  receiver-is : a .code ≡ 3 → messageAt t x .to < 7 → k ≡ messageAt t x .to
-  unfolding siteFor
-  receiver-is e l = (rw (eq-eqb (a .code) 3 e) at (h .site)) ∙ sym (within-low (messageAt t x .to) 6 (omega arith))
+  -- what the teller has said of the request
+  abbrev spoken : Vote
+  spoken = voteAt (votesFrom (getD (s .votes) (siteIndex (a .site)) [])) (placeIn (q .names) (a .stamp))
 
-  receiver-up : a .code ≡ 3 → (ltb (messageAt t x .to) 7 && siteAt t k .up) ≡ siteAt t (messageAt t x .to) .up
-  receiver-up e =
-      by-lt (messageAt t x .to) 7 (λ l. rw (lt-ltb (messageAt t x .to) 7 l, receiver-is e l))
-      (λ l. rw (le-ltb (messageAt t x .to) 7 l, no-site t (messageAt t x .to) (h .held .sites) l))
+  mark-at : (k p : ℕ) → k < 7 → markAt T₁ k p ≡ voteAt (votesFrom (getD (s .votes) k [])) p .mark
+  mark-at k p h = ap (λ (x : Site). voteAt (x .votes) p .mark) (site-at n s q m k h)
 
-  deliver-number : a .code ≡ 3 → deliverNumberOf j (messageAt t x) (siteAt t k .up) ≡ deliverNumber t a
-  unfolding deliverNumberOf deliverNumber noMessageAt
-  deliver-number e =
-      let j-is : j ≡ a .place = message-given (λ z. omega arith) in
-      by-lt j 64 (λ l. rw (receiver-up e, message-low l, j-is)) (λ l. rw (← j-is, le-ltb j 64 l))
+  verdict-at : (k p : ℕ) → k < 7 → verdictAt T₁ k p ≡ voteAt (votesFrom (getD (s .votes) k [])) p .verdict
+  verdict-at k p h = ap (λ (x : Site). voteAt (x .votes) p .verdict) (site-at n s q m k h)
 
-  deliver-to : deliverNumberOf j (messageAt t x) (siteAt t k .up) ≡ 0 → messageAt t x .to < 7
-  unfolding deliverNumberOf
-  deliver-to e = ltb-true (messageAt t x .to) 7 (and-left (ltb (messageAt t x .to) 7) (siteAt t k .up) (neither-holds (noMessageThere j (messageAt t x)) _ e .1))
-
-  deliver-done
-      : a .code ≡ 3 → a .place < 64 → messageAt t x .to < 7
-      → _≡_ {A = Stepped} (record { answer = counting (refusal 0) (heardAt a k p (messageAt t x) t); table = withSite k (heardAt a k p (messageAt t x) t .site) t }) (steppedAs (delivered t a))
-  unfolding delivered
-  deliver-done e l o =
-      let p-is : p ≡ messageAt t x .request = rw (ne-eqb (a .code) 1 (λ z. omega arith), eq-eqb (a .code) 3 e) at (h .place) in
-      let j-is : j ≡ a .place = message-given (λ z. omega arith) in
-      let x-is : x ≡ a .place = message-low (rw j-is l) ∙ j-is in
-      rw (ne-eqb (a .code) 1 (λ z. omega arith), receiver-is e o, p-is, x-is)
-
-  deliver-arm : a .code ≡ 3 → carried t a x k p i (hands (deliverNumberOf j (messageAt t x) (siteAt t k .up)) (messageAt t x) (siteAt t k .up) (siteAt t k .last)) ≡ advanced t a
-  unfolding carried
-  deliver-arm e =
-      ap (attended a k p (messageAt t x) (hands (deliverNumberOf j (messageAt t x) (siteAt t k .up)) (messageAt t x) (siteAt t k .up) (siteAt t k .last))) (unturned t x k)
-      ∙ code-3 t a e
-      (rw (deliver-number e)
-      (by-test (eqb (deliverNumber t a) 0)
+  tell-number
+      : tellNumberOf n (a .site) (a .to) (getD (s .ups) (siteIndex (a .site)) false) spoken (placeIn (q .names) (a .stamp)) (freeMessageIn (freeSet (m .letters))) ≡ tellNumber T₁ a
+  unfolding tellNumberOf tellNumber cannotTell tableFrom
+  tell-number =
+      by-test (leb 1 (a .site) && leb (a .site) n)
       (λ y.
-      let z : deliverNumber t a ≡ 0 = eqb-true (deliverNumber t a) 0 y in
-      rw (y, z) (deliver-done e (message-there t (a .place) (may-deliver t a z) .0) (deliver-to (deliver-number e ∙ z))))
-      (λ y. rw y)))
+      let r = site-is (rw y) in
+      rw (y, r .0, place-of n s q m (a .stamp), free-message-of n s q m, mark-at (a .site - 1) (placeIn (q .names) (a .stamp)) (r .1), verdict-at (a .site - 1) (placeIn (q .names) (a .stamp)) (r .1), site-at n s q m (a .site - 1) (r .1)))
+      (λ y. rw y)
 
-  -- ---- 1 begin
+  module _ {number : ℕ} (e : number ≡ tellNumberOf n (a .site) (a .to) (getD (s .ups) (siteIndex (a .site)) false) spoken (placeIn (q .names) (a .stamp)) (freeMessageIn (freeSet (m .letters)))) where
+    pub tell-refused : {w : Answer} → (number ≡ 0 → ⊥) → w ≡ refusal number → record { answer = w; table = T₁ } ≡ unlessRefused (tellNumber T₁ a) (told T₁ a) T₁
+    tell-refused ne hw = refused-is (told T₁ a) (e ∙ tell-number) ne hw
 
-  begin-number : a .code ≡ 1 → beginNumberOf (t .count) (siteAt t k .up) (siteAt t k .last) p a ≡ beginNumber t a
-  unfolding beginNumberOf beginNumber
-  begin-number e =
-      by-test (leb 1 (a .site) && leb (a .site) (t .count)) (λ y. rw (y, site-is (λ z. omega arith) (rw y), place-free e)) (λ y. rw y)
+    pub tell-may : number ≡ 0 → MayTell T₁ a
+    tell-may z = may-tell T₁ a (sym (e ∙ tell-number) ∙ z)
 
-  -- the table with the stamp issued and the request stored
-  entered-as
-      : a .code ≡ 1 → MayBegin t a
-      → withRequest i (requestOf (record { stamp = issueStamp (issueAt (siteAt t k .last) a); base = a .base; update = a .update }) (storedRow 0 (a .base) (a .stamps)) (storedRow (pos 0) (a .update) (a .values)))
-      (withSite k (withLast (issueLast (siteAt t k .last) (issueAt (siteAt t k .last) a)) (siteAt t k)) (withMessage x (messageAt t x) t))
-      ≡ entered t a
-  unfolding entered stored storedRow
-  entered-as e m =
-      let k-is : k ≡ a .site - 1 = site-is (λ z. omega arith) (m .site) in
-      let p-is : p ≡ freePlace t = place-free e in
-      let i-is : i ≡ freePlace t = place-low (rw p-is (free-place t (m .place) .0)) ∙ p-is in
-      rw (set-getD (t .messages) x noMessage, k-is, i-is)
+    -- the message place is free
+    pub tell-free : number ≡ 0 → freeMessageIn (freeSet (m .letters)) < 64
+    tell-free z = rw (← free-message-of n s q m) (free-message T₁ (tell-may z .message))
 
-  begin-done
-      : a .code ≡ 1 → MayBegin t a → {u : Table} → u ≡ entered t a
-      → _≡_ {A = Stepped}
-      (record { answer = counting (results (pos (issueStamp (issueAt (siteAt t k .last) a))) p 0 0) (heardAt a k p (messageAt t x) u); table = withSite k (heardAt a k p (messageAt t x) u .site) u })
-      (steppedAs (begun t a))
-  unfolding begun entered
-  begin-done e m hu =
-      rw (eq-eqb (a .code) 1 e, hu, site-is (λ z. omega arith) (m .site), place-free e)
+    pub tell-done
+        : {w : Answer} (z : number ≡ 0) → length (m .letters) ≡ 64 → length (m .oks) ≡ 64 → length (m .others) ≡ 64 → w ≡ results (pos (freeMessageIn (freeSet (m .letters)))) 0 0 0
+        → let j : ℕ = freeMessageIn (freeSet (m .letters)) in
+        let x : _ = messageOf (spoken .verdict) (getD (s .oks) (siteIndex (a .site)) []) (getD (s .others) (siteIndex (a .site)) []) (placeIn (q .names) (a .stamp)) (a .site - 1) (a .to - 1) in
+        record { answer = w; table = tableFrom n s q (messageRows (set (m .letters) j (letterOf x)) (set (m .oks) j (x .oks)) (set (m .others) j (x .others))) } ≡ unlessRefused (tellNumber T₁ a) (told T₁ a) T₁
+    unfolding tableFrom told accepts rejects
+    tell-done z ll lo lt hw =
+        let r = site-is (tell-may z .from) in
+        done-is (told T₁ a) T₁ (e ∙ tell-number) z
+        (rw (
+          hw,
+          message-put (m .letters) (m .oks) (m .others) (tell-free z) ll lo lt (messageOf (spoken .verdict) (getD (s .oks) (siteIndex (a .site)) []) (getD (s .others) (siteIndex (a .site)) []) (placeIn (q .names) (a .stamp)) (a .site - 1) (a .to - 1)),
+          free-message-of n s q m,
+          place-of n s q m (a .stamp),
+          site-at n s q m (a .site - 1) (r .1),
+          r .0,
+        ))
 
-  begin-arm : a .code ≡ 1 → carried t a x k p i (begins (beginPlan (t .count) (siteAt t k .up) (siteAt t k .last) p a) (messageAt t x) (siteAt t k .up)) ≡ advanced t a
-  unfolding carried beginPlan
-  begin-arm e =
-      code-1 t a e
-      (rw (begin-number e)
-      (by-test (eqb (beginNumber t a) 0) (λ y. rw y (begin-done e (may-begin t a (eqb-true _ _ y)) (entered-as e (may-begin t a (eqb-true _ _ y)))))
-      (λ y. rw (y, y) (rw (unturned t x k)))))
+    pub tell-end
+        : {w : Answer} {k p j x : ℕ} {v : Vote} {ls : List (List ℕ)} {os ts : List (List Bool)} → number ≡ 0 → LongMessages m
+        → k ≡ siteIndex (a .site) → p ≡ placeIn (q .names) (a .stamp) → j ≡ freeMessageIn (freeSet (m .letters)) → v ≡ voteAt (votesFrom (getD (s .votes) k [])) p → x ≡ j
+        → w ≡ results (pos j) 0 0 0 → let y : Message = messageOf (v .verdict) (getD (s .oks) k []) (getD (s .others) k []) p (a .site - 1) (a .to - 1) in
+        ls ≡ set (m .letters) x (letterOf y) → os ≡ set (m .oks) x (y .oks) → ts ≡ set (m .others) x (y .others)
+        → record { answer = w; table = tableFrom n s q (messageRows ls os ts) } ≡ unlessRefused (tellNumber T₁ a) (told T₁ a) T₁
+    tell-end z l hk hp hj hv hx hw hl ho ht = rw (hl, ho, ht, hx, hv, hj, hp, hk) (tell-done z (l .letters) (l .oks) (l .others) (hw ∙ rw hj))
+
+  -- as the code asks
+  pub tell-asked
+      : {k p j free number : ℕ} {v : Vote} → k ≡ siteIndex (a .site) → p ≡ placeIn (q .names) (a .stamp) → free ≡ freeSet (m .letters) → j ≡ freeMessageIn free
+      → v ≡ voteAt (votesFrom (getD (s .votes) k [])) p → number ≡ tellNumberOf n (a .site) (a .to) (getD (s .ups) k false) v p j
+      → number ≡ tellNumberOf n (a .site) (a .to) (getD (s .ups) (siteIndex (a .site)) false) spoken (placeIn (q .names) (a .stamp)) (freeMessageIn (freeSet (m .letters)))
+  tell-asked hk hp hf hj hv e = rw (hv, hj, hf, hp, hk) at e
+
+-- ---- the steps at which no site acts
+
+module _ (n : ℕ) (s : SiteRows) (q : RequestRows) (m : MessageRows) (a : Step) where
+  abbrev T : Table
+  T = tableFrom n s q m
+
+  -- ---- 4 drop
+
+  -- a test of the message there
+  message-test : (ltb (a .place) 64 && isLetter (getD (m .letters) (a .place) [])) ≡ (ltb (a .place) 64 && messageAt T (a .place) .used)
+  message-test = by-lt (a .place) 64 (λ l. rw (message-at n s q m (a .place) l)) (λ l. rw (le-ltb (a .place) 64 l))
+
+  drop-number : dropNumberOf (a .place) (isLetter (getD (m .letters) (a .place) [])) ≡ dropNumber T a
+  unfolding dropNumberOf dropNumber noMessageAt
+  drop-number = rw message-test
+
+  module _ {number : ℕ} (e : number ≡ dropNumberOf (a .place) (isLetter (getD (m .letters) (a .place) []))) where
+    pub drop-refused : {w : Answer} → (number ≡ 0 → ⊥) → w ≡ refusal number → record { answer = w; table = T } ≡ unlessRefused (dropNumber T a) (dropped T a) T
+    drop-refused ne hw = refused-is (dropped T a) (e ∙ drop-number) ne hw
+
+    -- the place is used
+    pub drop-there : number ≡ 0 → (a .place < 64) × (isLetter (getD (m .letters) (a .place) []) ≡ true)
+    drop-there z =
+        let h = message-there T (a .place) (may-drop T a (sym (e ∙ drop-number) ∙ z)) in
+        (h .0, rw (message-at n s q m (a .place) (h .0)) at (h .1))
+
+    pub drop-done
+        : {w : Answer} → number ≡ 0 → length (m .letters) ≡ 64 → length (m .oks) ≡ 64 → length (m .others) ≡ 64 → w ≡ refusal 0
+        → record { answer = w; table = tableFrom n s q (messageRows (set (m .letters) (a .place) (letterOf blankMessage)) (set (m .oks) (a .place) (blankMessage .oks)) (set (m .others) (a .place) (blankMessage .others))) }
+        ≡ unlessRefused (dropNumber T a) (dropped T a) T
+    unfolding tableFrom dropped accepts rejects
+    drop-done z ll lo lt hw =
+        done-is (dropped T a) T (e ∙ drop-number) z (rw (hw, message-put (m .letters) (m .oks) (m .others) (drop-there z .0) ll lo lt blankMessage))
+
+    pub drop-end
+        : {w : Answer} {x : ℕ} {ls : List (List ℕ)} {os ts : List (List Bool)} → number ≡ 0 → LongMessages m → x ≡ a .place → w ≡ refusal 0
+        → ls ≡ set (m .letters) x (letterOf blankMessage) → os ≡ set (m .oks) x (blankMessage .oks) → ts ≡ set (m .others) x (blankMessage .others)
+        → record { answer = w; table = tableFrom n s q (messageRows ls os ts) } ≡ unlessRefused (dropNumber T a) (dropped T a) T
+    drop-end z l hx hw hl ho ht = rw (hl, ho, ht, hx) (drop-done z (l .letters) (l .oks) (l .others) hw)
+
+  -- as the code asks
+  pub drop-asked : {x number : ℕ} {b : Bool} → x ≡ a .place → b ≡ isLetter (getD (m .letters) x []) → number ≡ dropNumberOf (a .place) b → number ≡ dropNumberOf (a .place) (isLetter (getD (m .letters) (a .place) []))
+  drop-asked hx hb e = rw (hb, hx) at e
 
   -- ---- 7 retire
 
-  retire-number : a .code ≡ 7 → retireNumberOf p (heldBack (t .count) (t .sites) (t .messages) p) ≡ retireNumber t a
-  unfolding retireNumberOf retireNumber cannotRetire
-  retire-number e = rw (place-stamped (λ z. omega arith) (λ z. omega arith))
+  retire-number : retireNumberOf (placeIn (q .names) (a .stamp)) (heldBackBy n (s .votes) (m .letters) (placeIn (q .names) (a .stamp))) ≡ retireNumber T a
+  unfolding retireNumberOf retireNumber cannotRetire tableFrom
+  retire-number =
+      rw (place-of n s q m (a .stamp), held-back-is (s .ups) (s .lasts) (s .stamps) (s .values) (s .votes) (s .queues) (s .waitings) (s .oks) (s .others) (placeIn (q .names) (a .stamp)) (m .letters) (m .oks) (m .others) n)
 
-  retire-done
-      : a .code ≡ 7 → MayRetire t a
-      → _≡_ {A = Stepped} (record { answer = results (pos 0) 0 0 0; table = withSites (changed 7 (forgotten p) (t .sites)) (withRequest i blankRequest t) }) (steppedAs (retired t a))
-  unfolding retired accepts rejects
-  retire-done e m =
-      let p-is : p ≡ placeOf t (a .stamp) = place-stamped (λ z. omega arith) (λ z. omega arith) in
-      rw (place-low (rw p-is (named-place t (a .stamp) (m .place) .0)), p-is)
+  pub retire-none : {w : Answer} → placeIn (q .names) (a .stamp) ≡ 16 → w ≡ refusal 10 → record { answer = w; table = T } ≡ unlessRefused (retireNumber T a) (retired T a) T
+  unfolding retireNumberOf
+  retire-none e hw = rw (hw, ← retire-number, eq-eqb (placeIn (q .names) (a .stamp)) 16 e)
 
-  -- no request: what is stored where a place is freed
-  freed : requestOf noHead (storedRow 0 0 (a .stamps)) (storedRow (pos 0) 0 (a .values)) ≡ blankRequest
-  unfolding storedRow blankRequest
-  freed = rw (stored-none 0 (a .stamps), stored-none (pos 0) (a .values))
+  module _ {number : ℕ} (e : number ≡ retireNumberOf (placeIn (q .names) (a .stamp)) (heldBackBy n (s .votes) (m .letters) (placeIn (q .names) (a .stamp)))) where
+    pub retire-refused : {w : Answer} → (number ≡ 0 → ⊥) → w ≡ refusal number → record { answer = w; table = T } ≡ unlessRefused (retireNumber T a) (retired T a) T
+    retire-refused ne hw = refused-is (retired T a) (e ∙ retire-number) ne hw
 
-  retire-arm
-      : a .code ≡ 7
-      → carried t a x k p i (frees (retireNumberOf p (heldBack (t .count) (t .sites) (t .messages) p)) (messageAt t x) (siteAt t k .up) (siteAt t k .last)) ≡ advanced t a
-  unfolding carried
-  retire-arm e =
-      ap (λ (u : Table). freeing u) (unturned t x k)
-      ∙ code-7 t a e
-      (rw (retire-number e)
-      (by-test (eqb (retireNumber t a) 0) (λ y. rw (y, eqb-true (retireNumber t a) 0 y, freed) (retire-done e (may-retire t a (eqb-true _ _ y)))) (λ y. rw y)))
-    where
-      freeing : Table → Stepped
-      freeing u =
-          let c : Plan = frees (retireNumberOf p (heldBack (t .count) (t .sites) (t .messages) p)) (messageAt t x) (siteAt t k .up) (siteAt t k .last) in
-          attended a k p (messageAt t x) c (loses p c (keeps i a c u))
+    pub retire-there : number ≡ 0 → placeIn (q .names) (a .stamp) < 16
+    retire-there z = rw (← place-of n s q m (a .stamp)) (named-place T (a .stamp) (may-retire T a (sym (e ∙ retire-number) ∙ z) .place) .0)
 
-  -- ---- each step
+    pub retire-done
+        : {w : Answer} → number ≡ 0 → length (q .names) ≡ 16 → length (q .bases) ≡ 16 → length (q .updates) ≡ 16 → length (q .based) ≡ 384 → length (q .news) ≡ 384
+        → length (s .votes) ≡ 7 → length (s .oks) ≡ 7 → length (s .others) ≡ 7 → (ss : List ℕ) (vs : List ℤ) → w ≡ refusal 0
+        → let p : ℕ = placeIn (q .names) (a .stamp) in
+        record {
+          answer = w;
+          table = tableFrom n (siteRows (s .ups) (s .lasts) (s .stamps) (s .values) (changed 7 (votesForgotten p) (s .votes)) (s .queues) (s .waitings) (changed 7 (votersForgotten p) (s .oks)) (changed 7 (votersForgotten p) (s .others)))
+              (requestRows (set (q .names) p 0) (set (q .bases) p 0) (set (q .updates) p 0) (withRow 0 (q .based) p (storedRow 0 0 ss)) (withRow (pos 0) (q .news) p (storedRow (pos 0) 0 vs))) m;
+        }
+        ≡ unlessRefused (retireNumber T a) (retired T a) T
+    unfolding tableFrom retired accepts rejects storedRow blankRequest
+    retire-done z ln lb lu lbs lns lv lo lt ss vs hw =
+        done-is (retired T a) T (e ∙ retire-number) z
+        (rw (
+          hw,
+          place-of n s q m (a .stamp),
+          sites-forgot (s .ups) (s .lasts) (s .stamps) (s .values) (s .votes) (s .queues) (s .waitings) (s .oks) (s .others) (placeIn (q .names) (a .stamp)) lv lo lt,
+          parts-set (q .names) (q .bases) (q .updates) (q .based) (q .news) (placeIn (q .names) (a .stamp)) 0 0 0 (storedRow 0 0 ss) (storedRow (pos 0) 0 vs) (retire-there z) ln lb lu (length-listed 24 _) (length-listed 24 _) lbs lns,
+          stored-none 0 ss,
+          stored-none (pos 0) vs,
+        ))
 
-  -- the plan of a step, carried out, is the step
-  pub carried-is
-      : {c : Plan} {held : Bool} → held ≡ (eqb (a .code) 7 && heldBack (t .count) (t .sites) (t .messages) p)
-      → c ≡ planOf (t .count) a j (messageAt t x) (siteAt t k .up) (siteAt t k .last) (siteAt t k .votes) (siteAt t k .oks) (siteAt t k .others) (siteAt t k .stamps) (siteAt t k .values) p held
-      → carried t a x k p i c ≡ advanced t a
-  unfolding planOf
-  carried-is hh hc =
-      rw (hc, hh)
-      (by-test (eqb (a .code) 1) (λ y. rw y (begin-arm (eqb-true _ _ y)))
-      (λ n1. by-test (eqb (a .code) 2) (λ y. rw (n1, y) (plain t a x k p i _ _ ∙ tell-arm (eqb-true _ _ y)))
-      (λ n2. by-test (eqb (a .code) 3) (λ y. rw (n1, n2, y) (deliver-arm (eqb-true _ _ y)))
-      (λ n3. by-test (eqb (a .code) 4) (λ y. rw (n1, n2, n3, y) (plain t a x k p i _ _ ∙ drop-arm (eqb-true _ _ y)))
-      (λ n4. by-test (eqb (a .code) 5) (λ y. rw (n1, n2, n3, n4, y) (switched t a x k p i _ _ ∙ down-arm (eqb-true _ _ y)))
-      (λ n5. by-test (eqb (a .code) 6) (λ y. rw (n1, n2, n3, n4, n5, y) (switched t a x k p i _ _ ∙ up-arm (eqb-true _ _ y)))
-      (λ n6. by-test (eqb (a .code) 7) (λ y. rw (n1, n2, n3, n4, n5, n6, y) (retire-arm (eqb-true _ _ y)))
-      (λ n7. by-test (eqb (a .code) 8) (λ y. rw (n1, n2, n3, n4, n5, n6, n7, y) (plainer t a x k p i _ ∙ read-arm (eqb-true _ _ y)))
-      (λ n8. rw (n1, n2, n3, n4, n5, n6, n7, n8)
-      (plainer t a x k p i (refusal 2)
-      ∙ code-none t a (eqb-false _ _ n1) (eqb-false _ _ n2) (eqb-false _ _ n3) (eqb-false _ _ n4) (eqb-false _ _ n5) (eqb-false _ _ n6) (eqb-false _ _ n7) (eqb-false _ _ n8) refl))))))))))
+    pub retire-end
+        : {w : Answer} {p i : ℕ} {ns bs us ds : List ℕ} {vs : List ℤ} {vo : List (List ℕ)} {ok ot : List (List Bool)} (ss : List ℕ) (es : List ℤ) → number ≡ 0 → LongRequests q
+        → length (s .votes) ≡ 7 → length (s .oks) ≡ 7 → length (s .others) ≡ 7 → p ≡ placeIn (q .names) (a .stamp) → i ≡ within p 15 → w ≡ refusal 0
+        → ns ≡ set (q .names) i 0 → bs ≡ set (q .bases) i 0 → us ≡ set (q .updates) i 0 → ds ≡ withRow 0 (q .based) i (storedRow 0 0 ss) → vs ≡ withRow (pos 0) (q .news) i (storedRow (pos 0) 0 es)
+        → vo ≡ changed 7 (votesForgotten p) (s .votes) → ok ≡ changed 7 (votersForgotten p) (s .oks) → ot ≡ changed 7 (votersForgotten p) (s .others)
+        → record {
+          answer = w;
+          table = tableFrom n (siteRows (s .ups) (s .lasts) (s .stamps) (s .values) vo (s .queues) (s .waitings) ok ot) (requestRows ns bs us ds vs) m;
+        }
+        ≡ unlessRefused (retireNumber T a) (retired T a) T
+    retire-end {i = i} ss es z l lv lo lt hp hi hw h1 h2 h3 h4 h5 h6 h7 h8 =
+        let i-is : i ≡ placeIn (q .names) (a .stamp) = hi ∙ ap (λ (x : ℕ). within x 15) hp ∙ sym (within-low (placeIn (q .names) (a .stamp)) 15 (omega (arith, retire-there z))) in
+        rw (h1, h2, h3, h4, h5, h6, h7, h8, i-is, hp) (retire-done z (l .names) (l .bases) (l .updates) (l .based) (l .news) lv lo lt ss es hw)
+
+  -- as the code asks
+  pub retire-asked
+      : {p number : ℕ} {b : Bool} → p ≡ placeIn (q .names) (a .stamp) → b ≡ heldBackBy n (s .votes) (m .letters) p → number ≡ retireNumberOf p b
+      → number ≡ retireNumberOf (placeIn (q .names) (a .stamp)) (heldBackBy n (s .votes) (m .letters) (placeIn (q .names) (a .stamp)))
+  retire-asked hp hb e = rw (hb, hp) at e

@@ -1,8 +1,9 @@
 -- The laws of the steps.
-mod Summaries
+mod Rows
+mod Opening
 mod Advancing
 mod Arms
-mod Apart
+mod Attending
 -- The conditions of a step, and that each step keeps the table sound.
 pub mod Allowed
 pub mod Upkeep

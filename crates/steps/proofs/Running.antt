@@ -15,7 +15,9 @@ use mir.Val.{SFits}
 use Rattle.kit.specs.Lists.{put, placed}
 use Rattle.kit.proofs.Bools.{by-test, or-left, or-right}
 use Rattle.kit.proofs.Puts.{put-put, put-none, placed-in, length-put}
-use Rattle.lines.specs.Lines.{fitted}
+use Rattle.lines.specs.Counts.{counted, lineWith, ampleFitted, amplePlaced}
+use Rattle.lines.specs.Lines.{decimalOf, fitted}
+use Rattle.lines.proofs.Counting.{ample-length, ample-bytes, counted-line}
 use Rattle.lines.proofs.Writes.{fitted-in}
 use Rattle.plans.specs.Answers.{refusal}
 use Rattle.plans.specs.declared.answer.Answer.{Answer}
@@ -27,7 +29,7 @@ use Rattle.record.proofs.Frames.{cut-header}
 use Rattle.table.specs.Sound.{soundTable}
 use Rattle.table.specs.declared.data.Table.{Table}
 use Rattle.steps.specs.Steps.{advanced}
-use Rattle.steps.specs.Night.{before, partedBy, parted, answeredOn, lineFor, Part, noPart, onePart, isFull, partOf, partFrom, partBehind, ranAs, ran, ranInto}
+use Rattle.steps.specs.Night.{before, partedBy, parted, answeredOn, lineFor, Part, noPart, onePart, isFull, partOf, partFrom, ranAs, ran, ranInto}
 use Rattle.steps.specs.declared.answer.Stepped.{Stepped}
 use Rattle.steps.specs.declared.run.Ran.{Ran}
 
@@ -46,6 +48,20 @@ answered-step t r h e = rw (eq-eqb (r .number) 0 h) e
 pub abs-fits : (z : ℤ) → SFits w64 z → natAbs z ≤ 2 ^ 63
 abs-fits (pos n) f = let l : n < 9223372036854775808 = f .sfits in omega arith
 abs-fits (negsuc n) f = let l : n < 9223372036854775808 = f .sfits in omega arith
+
+-- a line that begins with digits that are kept is written as the line of the number is
+module _
+    (d : List ℕ) (at nth : ℕ) (w : Answer) (digits : List ℕ) (len : ℕ) (room : at + 89 ≤ length d) (h : counted digits len nth ≡ decimalOf nth)
+    (short : length (lineFor nth w) ≤ 89)
+  where
+    same-line : lineWith (counted digits len nth) (w .number) (w .first) (w .second) (w .accepted) (w .rejected) ≡ lineFor nth w
+    same-line = counted-line digits len nth (w .number) (w .first) (w .second) (w .accepted) (w .rejected) h
+
+    pub line-fitted : ampleFitted d at (lineWith (counted digits len nth) (w .number) (w .first) (w .second) (w .accepted) (w .rejected)) ≡ fitted d at (lineFor nth w)
+    line-fitted = ap (ampleFitted d at) same-line ∙ ample-length d at (lineFor nth w) room ∙ sym (fitted-in d at (lineFor nth w) (omega arith))
+
+    pub line-placed : amplePlaced d at (lineWith (counted digits len nth) (w .number) (w .first) (w .second) (w .accepted) (w .rejected)) ≡ placed d at (lineFor nth w)
+    line-placed = ap (amplePlaced d at) same-line ∙ ample-bytes d at (lineFor nth w) room ∙ sym (placed-in d at (lineFor nth w) (omega arith))
 
 -- there is a number for the record behind
 pub number-left : (room nth : ℕ) → isFull room nth ≡ false → nth + 1 < 18446744073709551616
@@ -136,56 +152,29 @@ pub record Facing (whole : Part) (s out₀ : List ℕ) (end room : ℕ) (t : Tab
   pub bytes : put out to (lineAt t r nth ++ partAt t r nth (drop at s) (length out - to) .lines) ≡ put out₀ 0 (whole .lines)
 
 -- there is room for a line
-more-room : (room nth : ℕ) → isFull room nth ≡ false → 89 ≤ room
+pub more-room : (room nth : ℕ) → isFull room nth ≡ false → 89 ≤ room
 more-room room nth e = ltb-false room 89 (or-left (ltb room 89) (leb 18446744073709551615 nth) e)
 
--- the record r and those behind it, where there is room
-behind-is
-    : (t : Table) (nth : ℕ) (r : Record) (s : List ℕ) (room : ℕ) → isFull room nth ≡ false
-    → partBehind t nth r s room ≡ onePart r (lineAt t r nth) (partAt t r nth s room)
-unfolding partOf
-behind-is t nth r s room e = let n : suc nth ≡ nth + 1 = omega arith in rw (e, ← n) refl
+-- before the first record
+pub going-start
+    : (t : Table) (nth : ℕ) {s out₀ : List ℕ} {end room : ℕ} → end ≡ length s → room ≡ length out₀
+    → Going (partFrom t nth s (length out₀)) s out₀ end room t out₀ 0 0 nth
+going-start t nth {s} {out₀} e f =
+    let none : length out₀ - 0 ≡ length out₀ = omega arith in
+    let p : Part = partFrom t nth s (length out₀) in
+    let took : 0 + p .taken ≡ p .taken = omega arith in
+    let wrote : 0 + length (p .lines) ≡ length (p .lines) = omega arith in
+    record {
+      all = e;
+      free = f;
+      inside = omega arith;
+      ends = omega arith;
+      long = refl;
+      answer = rw none (ap₂ (λ (k l : ℕ). record { number = 0; taken = k; written = l; next = p .next; table = p .table }) took wrote);
+      bytes = rw none refl;
+    }
 
 module _ {whole : Part} {s out₀ : List ℕ} {end room : ℕ} where
-  pub facing-start
-      : (t : Table) (r : Record) (nth : ℕ) → end ≡ length s → room ≡ length out₀ → r .next ≤ length s → isFull (length out₀) nth ≡ false
-      → whole ≡ partBehind t nth r (drop (r .next) s) (length out₀) → Facing whole s out₀ end room t r out₀ (r .next) 0 nth
-  facing-start t r nth e f l g w =
-      let none : length out₀ - 0 ≡ length out₀ = omega arith in
-      let is : whole ≡ onePart r line later = w ∙ behind-is t nth r (drop (r .next) s) (length out₀) g in
-      let wrote : 0 + length line + length (later .lines) ≡ length (line ++ later .lines) = rw length-append (omega arith) in
-      record {
-        all = e;
-        free = f;
-        inside = l;
-        ends = omega arith;
-        long = refl;
-        goes = rw none g;
-        answer = rw (none, is) (ap (λ (k : ℕ). record { number = 0; taken = r .next + later .taken; written = k; next = later .next; table = later .table }) wrote);
-        bytes = rw (none, is) refl;
-      }
-    where
-      line : List ℕ
-      line = lineAt t r nth
-
-      later : Part
-      later = partAt t r nth (drop (r .next) s) (length out₀)
-
-  -- another record that is answered the same
-  pub facing-same
-      : {t : Table} {x y : Record} {out : List ℕ} {at to nth : ℕ} → answeredOn t y ≡ answeredOn t x → Facing whole s out₀ end room t x out at to nth
-      → Facing whole s out₀ end room t y out at to nth
-  facing-same e g = record {
-    all = g .all;
-    free = g .free;
-    inside = g .inside;
-    ends = g .ends;
-    long = g .long;
-    goes = g .goes;
-    answer = rw e (g .answer);
-    bytes = rw e (g .bytes);
-  }
-
   -- it is answered and its line written
   pub facing-wrote
       : {t : Table} {r : Record} {out : List ℕ} {at to nth : ℕ} → Facing whole s out₀ end room t r out at to nth
@@ -295,36 +284,8 @@ module _ (t : Table) (nth : ℕ) (s out : List ℕ) {b : Bool} (e : b ≡ soundT
   run-unsound h = rw (sym e ∙ not-true b h) (refl, (refl, (omega arith, omega arith)))
 
   module _ (h : not b ≡ false) where
-    run-sound
+    pub run-sound
         : {r : Ran} {out′ : List ℕ} → r ≡ ranAs (partFrom t nth s (length out)) → out′ ≡ put out 0 (partFrom t nth s (length out) .lines)
         → (r .taken ≤ length s) × (r .written ≤ length out) → Kept-promise r out′
     unfolding ran ranInto
     run-sound a p i = rw (sym e ∙ not-false b h) (a, (p, i))
-
-    -- no record is taken
-    run-none : partFrom t nth s (length out) ≡ noPart t nth → {r : Ran} → r ≡ ranAs (noPart t nth) → Kept-promise r out
-    run-none w {r} a =
-        run-sound (a ∙ ap ranAs (sym w)) (sym (put-none out 0) ∙ ap (λ (p : Part). put out 0 (p .lines)) (sym w)) (rw a (omega arith, omega arith))
-
-    pub run-full : isFull (length out) nth ≡ true → {r : Ran} → r ≡ ranAs (noPart t nth) → Kept-promise r out
-    run-full f = run-none (part-full t nth s (length out) f)
-
-    module _ {r₁ : Record} (read : r₁ ≡ recordOf s) where
-      pub run-cut : r₁ .next ≡ 0 → {r : Ran} → r ≡ ranAs (noPart t nth) → Kept-promise r out
-      run-cut z = run-none (part-cut t nth s (length out) (by-test (isCut s) (λ c. c) (λ f. absurd (let l = next-whole s f in let w : recordOf s .next ≡ 0 = ap (λ (x : Record). x .next) (sym read) ∙ z in let y : ⊥ = omega arith in y))))
-
-      -- the first record, and those behind it
-      pub run-on
-          : (r₁ .next ≡ 0 → ⊥) → {r : Ran} {out′ : List ℕ} → r ≡ ranAs (partBehind t nth r₁ (drop (r₁ .next) s) (length out))
-          → out′ ≡ put out 0 (partBehind t nth r₁ (drop (r₁ .next) s) (length out) .lines) → (r .taken ≤ length s) × (r .written ≤ length out) → Kept-promise r out′
-      run-on n a p i =
-          let w : partBehind t nth r₁ (drop (r₁ .next) s) (length out) ≡ partFrom t nth s (length out) =
-          rw (read, parted-whole s (whole-next s (λ z. n (ap (λ (x : Record). x .next) read ∙ z)))) refl in
-          run-sound (a ∙ ap ranAs w) (p ∙ ap (λ (q : Part). put out 0 (q .lines)) w) i
-
--- a step answered as a record that stands alone
-pub alone-is
-    : (t : Table) (a : Step) (n : ℕ) {z : Ran} {w : Answer} → let r : Record = record { number = 0; next = n; step = a } in
-    z ≡ ranAs (partBehind t 0 r [] 89) → w ≡ answeredOn t r .answer → _≡_ {A = Stepped} (record { answer = w; table = z .table }) (advanced t a)
-unfolding partOf parted partedBy answeredOn
-alone-is t a n hz hw = rw (hz, hw) refl

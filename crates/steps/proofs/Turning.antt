@@ -1,5 +1,5 @@
--- A run over records, turn after turn: what the loop holds before a record, and between two.
-use Prim.Native.Nat.{ℕ, _+_, _-_, _≤_}
+-- A run over records, turn after turn: what the loop holds between two of them.
+use Prim.Native.Nat.{ℕ, _+_, _-_, _≤_, _<_}
 use mathlib.Core.Bool.{Bool, false, true, _||_}
 use mathlib.Core.List.{List}
 use mathlib.Core.Path.{_≡_, refl, sym, ap, _∙_}
@@ -7,102 +7,141 @@ use native.Mathlib.Omega.{arith}
 use borrow.Author.Tests.{eqb-true, eqb-false}
 use lib.Dec.{eqb}
 use lib.IntN.{ℤ}
-use Rattle.kit.proofs.Bools.{by-test, or-left, or-right}
 use lib.ListN.{length, take, drop}
+use Rattle.kit.proofs.Bools.{by-test, or-left, or-right}
 use Rattle.kit.specs.Lists.{put, placed}
-use Rattle.lines.specs.Lines.{fitted}
-use Rattle.record.specs.Records.{recordOf, briefOf}
+use Rattle.lines.proofs.Counting.{counted-start, length-start, counted-on, length-on}
+use Rattle.lines.specs.Counts.{counted, countedDigits, countedLength, digitsOn, lengthOn}
+use Rattle.lines.specs.Lines.{decimalOf, fitted}
+use Rattle.plans.specs.Answers.{refusal}
+use Rattle.plans.specs.Letters.{freeSet}
+use Rattle.plans.specs.declared.answer.Answer.{Answer}
+use Rattle.record.specs.Records.{recordOf, briefOf, stepFrom}
 use Rattle.record.specs.declared.Brief.{Brief}
 use Rattle.record.specs.declared.Record.{Record}
 use Rattle.table.specs.declared.data.Table.{Table}
-use Rattle.steps.specs.Night.{answeredOn, lineFor, Part, isFull, partBehind, ranAs, stoppedAt}
-use Rattle.plans.specs.declared.answer.Answer.{Answer}
+use Rattle.steps.specs.Night.{answeredOn, lineFor, Part, isFull, partFrom, ranAs, stoppedAt}
+use Rattle.steps.specs.Opened.{SiteRows, RequestRows, MessageRows, tableFrom, siteRows, requestRows, messageRows, LongRows}
+use Rattle.steps.specs.Steps.{advanced}
 use Rattle.steps.specs.declared.answer.Stepped.{Stepped}
-use Rattle.steps.specs.declared.answering.Answered.{Answered}
-use Rattle.steps.proofs.Apart.{Parts, whole, Apart, Replied}
+use Rattle.steps.specs.declared.run.Ran.{Ran}
 use Rattle.steps.proofs.Briefs.{recordFrom, answered-brief}
-use Rattle.steps.proofs.Running.{Going, Facing, facing-start, facing-same, facing-wrote, going-full, going-cut, going-read}
+use Rattle.steps.proofs.Running.{Going, Facing, going-start, facing-wrote, going-full, going-cut, going-read, more-room, number-left, answered-refused, answered-step}
 
-module _ (t₀ : Table) (r₀ : Record) (nth₀ : ℕ) (s out₀ : List ℕ) (end room : ℕ) where
-  -- all that is to do
-  abbrev Whole : Part
-  Whole = partBehind t₀ nth₀ r₀ (drop (r₀ .next) s) (length out₀)
+-- all that is to do
+abbrev Whole : Table → ℕ → List ℕ → List ℕ → Part
+Whole t₀ nth₀ s out₀ = partFrom t₀ nth₀ s (length out₀)
 
-  -- before the record r, the table taken apart; where there is no input it is the first
-  pub record Turning (t : Table) (o : Parts) (used : List Bool) (r : Record) (out : List ℕ) (at to nth : ℕ) : Type 0 where
-    pub facing : Facing Whole s out₀ end room (whole t o) r out at to nth
-    pub apart : Apart t o used
-    pub first : length s ≡ 0 → (whole t o ≡ t₀) × (r ≡ r₀)
+-- before a record: the table t that is taken apart, its free message places, the number of the record in digits
+pub record Turning (t₀ : Table) (nth₀ : ℕ) (s out₀ : List ℕ) (end room : ℕ) (t : Table) (sr : SiteRows) (q : RequestRows) (m : MessageRows) (free : ℕ) (digits : List ℕ) (figures : ℕ) (out : List ℕ) (at to nth : ℕ) : Type 0 where
+  pub going : Going (Whole t₀ nth₀ s out₀) s out₀ end room t out at to nth
+  pub long : LongRows sr q m
+  pub free-are : free ≡ freeSet (m .letters)
+  pub eight : length digits ≡ 8
+  pub figured : counted digits figures nth ≡ decimalOf nth
 
-  -- behind a record that was answered w
-  pub record Turned (t : Table) (o : Parts) (used : List Bool) (w : Answer) (out : List ℕ) (at to nth : ℕ) : Type 0 where
-    pub going : Going Whole s out₀ end room (whole t o) out at to nth
-    pub apart : Apart t o used
-    pub alone : length s ≡ 0 → w ≡ answeredOn t₀ r₀ .answer
-
-module _ {t₀ : Table} {r₀ : Record} {nth₀ : ℕ} {s out₀ : List ℕ} {end room : ℕ} where
+module _ {t₀ : Table} {nth₀ : ℕ} {s out₀ : List ℕ} {end room : ℕ} where
   pub turning-start
-      : {t : Table} {o : Parts} {used : List Bool} → Apart t o used → whole t o ≡ t₀ → end ≡ length s → room ≡ length out₀ → r₀ .next ≤ length s → isFull (length out₀) nth₀ ≡ false
-      → Turning t₀ r₀ nth₀ s out₀ end room t o used r₀ out₀ (r₀ .next) 0 nth₀
-  turning-start h i e f l g = record { facing = rw i (facing-start t₀ r₀ nth₀ e f l g refl); apart = h; first = λ z. (i, refl) }
+      : {t : Table} {sr : SiteRows} {q : RequestRows} {m : MessageRows} {free : ℕ} {digits : List ℕ} {figures : ℕ} → t ≡ t₀ → LongRows sr q m → end ≡ length s → room ≡ length out₀ → free ≡ freeSet (m .letters)
+      → length digits ≡ 8 → counted digits figures nth₀ ≡ decimalOf nth₀ → Turning t₀ nth₀ s out₀ end room t sr q m free digits figures out₀ 0 0 nth₀
+  turning-start ht lg e f hf l c = record { going = rw ht (going-start t₀ nth₀ e f); long = lg; free-are = hf; eight = l; figured = c }
 
-  pub turning-wrote
-      : {t : Table} {o : Parts} {us : List Bool} {r : Record} {out : List ℕ} {at to nth : ℕ}
-      → Turning t₀ r₀ nth₀ s out₀ end room t o us r out at to nth
-      → {v : Table} {p : Parts} {used : List Bool} {w : Answer} → Replied v p used w (answeredOn (whole t o) r) → {n : ℕ} {out′ : List ℕ}
-      → n ≡ fitted out to (lineFor nth w) → out′ ≡ placed out to (lineFor nth w) → length (lineFor nth w) ≤ 89
-      → Turned t₀ r₀ nth₀ s out₀ end room v p used w out′ at (to + n) (nth + 1)
-  turning-wrote g {v} {p} {used} {w} y {n} {out′} len put-in short = record {
-    going = facing-wrote (g .facing) (record { answer = w; table = whole v p }) n out′ (y .is) len put-in short;
-    apart = y .apart;
-    alone = λ z. ap (λ (o : Stepped). o .answer) (y .is) ∙ (let b = g .first z in rw (b .0, b .1) refl);
-  }
+  module _
+      {t : Table} {sr : SiteRows} {q : RequestRows} {m : MessageRows} {free : ℕ} {digits : List ℕ} {figures : ℕ} {out : List ℕ} {at to nth : ℕ}
+      (g : Turning t₀ nth₀ s out₀ end room t sr q m free digits figures out at to nth)
+    where
+      -- what is promised
+      abbrev Promised : Ran → Type 0
+      Promised z =
+          (z ≡ ranAs (Whole t₀ nth₀ s out₀))
+          × ((out ≡ put out₀ 0 (Whole t₀ nth₀ s out₀ .lines)) × ((z .taken ≤ length s) × (z .written ≤ length out₀)))
 
-  module _ {t : Table} {o : Parts} {used : List Bool} {w : Answer} {out : List ℕ} {at to nth : ℕ} (g : Turned t₀ r₀ nth₀ s out₀ end room t o used w out at to nth) where
-    -- what is promised
-    abbrev Promised : Answered → Type 0
-    Promised z =
-        (z .ran ≡ ranAs (Whole t₀ r₀ nth₀ s out₀ end room))
-        × ((out ≡ put out₀ 0 (Whole t₀ r₀ nth₀ s out₀ end room .lines))
-        × (((z .ran .taken ≤ length s) × (z .ran .written ≤ length out₀)) × (length s ≡ 0 → z .last ≡ answeredOn t₀ r₀ .answer)))
+      -- the record that the bytes from here on start with
+      abbrev Next : Record
+      Next = recordOf (take (end - at) (drop at s))
 
-    turned-full : isFull (room - to) nth ≡ true → {z : Answered} → z ≡ stoppedAt w at to nth (whole t o) → Promised z
-    turned-full e h = let c = going-full (g .going) e in rw h (c .0, (c .1 .0, (c .1 .1, g .alone)))
+      module _ {r : Brief} (hr : r ≡ briefOf Next) {b : Bool} (e : b ≡ (isFull (room - to) nth || eqb (r .next) 0)) where
+        size : r .next ≡ Next .next
+        unfolding briefOf
+        size = ap (λ (x : Brief). x .next) hr
 
-    -- the record that the bytes from here on start with
-    abbrev Next : Record
-    Next = recordOf (take (end - at) (drop at s))
+        -- the run ends here
+        pub turning-over : b ≡ true → {u : Table} → u ≡ t → {z : Ran} → z ≡ stoppedAt at to nth u → Promised z
+        turning-over f hu h =
+            by-test (isFull (room - to) nth) (λ y. rw (h, hu) (going-full (g .going) y))
+            (λ y. rw (h, hu) (going-cut (g .going) (sym size ∙ eqb-true (r .next) 0 (rw y at (sym e ∙ f)))))
 
-    module _ {r : Brief} (hr : r ≡ briefOf Next) where
-      size : r .next ≡ Next .next
-      unfolding briefOf
-      size = ap (λ (x : Brief). x .next) hr
+        -- or goes on with the record
+        module _ (f : b ≡ false) where
+          goes-on : isFull (room - to) nth ≡ false
+          goes-on = or-left (isFull (room - to) nth) (eqb (r .next) 0) (sym e ∙ f)
 
-      turned-cut : r .next ≡ 0 → {z : Answered} → z ≡ stoppedAt w at to nth (whole t o) → Promised z
-      turned-cut e h = let c = going-cut (g .going) (sym size ∙ e) in rw h (c .0, (c .1 .0, (c .1 .1, g .alone)))
+          pub turning-some : r .next ≡ 0 → ⊥
+          turning-some = eqb-false (r .next) 0 (or-right (isFull (room - to) nth) (eqb (r .next) 0) (sym e ∙ f))
 
-      -- the run ends here
-      pub turned-over : {b : Bool} → b ≡ (isFull (room - to) nth || eqb (r .next) 0) → b ≡ true → {z : Answered} → z ≡ stoppedAt w at to nth (whole t o) → Promised z
-      turned-over e f h =
-          by-test (isFull (room - to) nth) (λ y. turned-full y h)
-          (λ y. turned-cut (eqb-true (r .next) 0 (rw y at (sym e ∙ f))) h)
+          -- there is room for its line, and it ends inside the input
+          pub turning-faces : Facing (Whole t₀ nth₀ s out₀) s out₀ end room t Next out (at + r .next) to nth
+          turning-faces = rw size (going-read (g .going) Next goes-on refl (λ z. turning-some (size ∙ z)))
 
-      -- or goes on with the next record
-      module _ {b : Bool} (e : b ≡ (isFull (room - to) nth || eqb (r .next) 0)) (f : b ≡ false) where
-        goes-on : isFull (room - to) nth ≡ false
-        goes-on = or-left (isFull (room - to) nth) (eqb (r .next) 0) (sym e ∙ f)
+          -- there is room for its line, and a number for the record behind
+          pub turning-room : to + 89 ≤ length out
+          turning-room = let e = g .going .ends in omega (arith, more-room (length out - to) nth (turning-faces .goes))
 
-        pub turned-some : r .next ≡ 0 → ⊥
-        turned-some = eqb-false (r .next) 0 (or-right (isFull (room - to) nth) (eqb (r .next) 0) (sym e ∙ f))
+          pub turning-number : nth + 1 < 18446744073709551616
+          turning-number = number-left (length out - to) nth (turning-faces .goes)
 
-        pub turned-read
-            : {stamps : List ℕ} {values : List ℤ} → (r .code ≡ 1 → (stamps ≡ Next .step .stamps) × (values ≡ Next .step .values))
-            → Turning t₀ r₀ nth₀ s out₀ end room t o used (recordFrom r stamps values) out (at + r .next) to nth
-        turned-read arrays =
-            let n = turned-some in
-            let f : Facing (Whole t₀ r₀ nth₀ s out₀ end room) s out₀ end room (whole t o) Next out (at + r .next) to nth = rw size (going-read (g .going) Next goes-on refl (λ z. n (size ∙ z))) in
-            record {
-              facing = facing-same (answered-brief (whole t o) Next hr arrays) f;
-              apart = g .apart;
-              first = λ z. absurd (n (omega (arith, f .inside)));
-            }
+          -- refused when it was read, or its step taken
+          pub turning-refused : (r .number ≡ 0 → ⊥) → {w : Answer} → w ≡ refusal (r .number) → record { answer = w; table = t } ≡ answeredOn t Next
+          unfolding briefOf
+          turning-refused n h =
+              let e : r .number ≡ Next .number = ap (λ (x : Brief). x .number) hr in
+              answered-refused t Next (λ z. n (e ∙ z)) (h ∙ ap refusal e)
+
+          pub turning-stepped
+              : r .number ≡ 0 → {stamps : List ℕ} {values : List ℤ} → (r .code ≡ 1 → (stamps ≡ Next .step .stamps) × (values ≡ Next .step .values))
+              → {z : Stepped} → z ≡ advanced t (stepFrom r stamps values) → z ≡ answeredOn t Next
+          turning-stepped n {stamps} {values} arrays h = answered-step t (recordFrom r stamps values) n h ∙ answered-brief t Next hr arrays
+
+          -- answered w, which leaves the table u, and its line written
+          module _
+              {w : Answer} {u : Table} (y : record { answer = w; table = u } ≡ answeredOn t Next) {n : ℕ} {out′ : List ℕ} (len : n ≡ fitted out to (lineFor nth w))
+              (put-in : out′ ≡ placed out to (lineFor nth w)) (short : length (lineFor nth w) ≤ 89)
+            where
+              pub turning-wrote : Going (Whole t₀ nth₀ s out₀) s out₀ end room u out′ (at + r .next) (to + n) (nth + 1)
+              turning-wrote = facing-wrote turning-faces (record { answer = w; table = u }) n out′ y len put-in short
+
+              -- and its number counted on
+              pub turning-on
+                  : {sr′ : SiteRows} {q′ : RequestRows} {m′ : MessageRows} {fr : ℕ} → LongRows sr′ q′ m′ → fr ≡ freeSet (m′ .letters)
+                  → {ds : List ℕ} {fs : ℕ} → fs ≡ lengthOn digits figures (nth + 1) → ds ≡ digitsOn digits figures (nth + 1)
+                  → Turning t₀ nth₀ s out₀ end room u sr′ q′ m′ fr ds fs out′ (at + r .next) (to + n) (nth + 1)
+              turning-on lg hf hs hd = record {
+                going = turning-wrote;
+                long = lg;
+                free-are = hf;
+                eight = ap length hd ∙ length-on digits figures (nth + 1) ∙ g .eight;
+                figured = rw (hd, hs) (counted-on digits figures nth (g .figured));
+              }
+
+-- ---- the digits of the first number
+
+pub digits-start : (ds : List ℕ) (n : ℕ) → length ds ≡ 8 → {k : ℕ} {d : List ℕ} → k ≡ countedLength ds n → d ≡ countedDigits ds n → (length d ≡ 8) × (counted d k n ≡ decimalOf n)
+digits-start ds n l hk hd = (ap length hd ∙ length-start ds n ∙ l, rw (hd, hk) (counted-start ds n))
+
+-- ---- the rows behind a record that was answered w
+
+pub record Replied (n : ℕ) (s : SiteRows) (q : RequestRows) (m : MessageRows) (free : ℕ) (w : Answer) (z : Stepped) : Type 0 where
+  pub is : record { answer = w; table = tableFrom n s q m } ≡ z
+  pub long : LongRows s q m
+  pub free-are : free ≡ freeSet (m .letters)
+
+-- by what the code has for each row
+pub replied-there
+    : {n : ℕ} {s : SiteRows} {q : RequestRows} {m : MessageRows} {free : ℕ} {w : Answer} {z : Stepped} → Replied n s q m free w z
+    → {ups : List Bool} {lasts : List ℕ} {stamps : List (List ℕ)} {values : List (List ℤ)} {votes queues : List (List ℕ)} {waitings : List ℕ} {oks others : List (List Bool)}
+    → {names bases updates based : List ℕ} {news : List ℤ} {letters : List (List ℕ)} {told-oks told-others : List (List Bool)} {fr : ℕ} {y : Answer}
+    → ups ≡ s .ups → lasts ≡ s .lasts → stamps ≡ s .stamps → values ≡ s .values → votes ≡ s .votes → queues ≡ s .queues → waitings ≡ s .waitings → oks ≡ s .oks → others ≡ s .others
+    → names ≡ q .names → bases ≡ q .bases → updates ≡ q .updates → based ≡ q .based → news ≡ q .news
+    → letters ≡ m .letters → told-oks ≡ m .oks → told-others ≡ m .others → fr ≡ free → y ≡ w
+    → Replied n (siteRows ups lasts stamps values votes queues waitings oks others) (requestRows names bases updates based news) (messageRows letters told-oks told-others) fr y z
+replied-there r e1 e2 e3 e4 e5 e6 e7 e8 e9 e10 e11 e12 e13 e14 e15 e16 e17 e18 e19 = rw (e1, e2, e3, e4, e5, e6, e7, e8, e9, e10, e11, e12, e13, e14, e15, e16, e17, e18, e19) r

@@ -18,7 +18,6 @@ use Rattle.table.specs.declared.data.Table.{Table}
 use Rattle.steps.specs.Answers.{refusedAs}
 use Rattle.steps.specs.Steps.{advanced, stepped}
 use Rattle.steps.specs.declared.answer.Stepped.{Stepped}
-use Rattle.steps.specs.declared.answering.Answered.{Answered}
 use Rattle.steps.specs.declared.run.Ran.{Ran}
 
 -- ---- records
@@ -110,10 +109,6 @@ partOf t nth (r ∷ rs) room =
 abbrev pub partFrom : Table → ℕ → List ℕ → ℕ → Part
 partFrom t nth s room = partOf t nth (parted s .records) room
 
--- the record r, and those of the bytes s behind it
-abbrev pub partBehind : Table → ℕ → Record → List ℕ → ℕ → Part
-partBehind t nth r s room = partOf t nth (r ∷ parted s .records) room
-
 -- ---- `run`: "1: table not sound", with zeros beside it and the output as it came, else that part
 
 abbrev pub ranAs : Part → Ran
@@ -125,9 +120,9 @@ ran t nth s room = cond (soundTable t) (ranAs (partFrom t nth s room)) (record {
 unfoldable pub ranInto : Table → ℕ → List ℕ → List ℕ → List ℕ
 ranInto t nth s out = cond (soundTable t) (put out 0 (partFrom t nth s (length out) .lines)) out
 
--- a run that stops, and the answer to its last record
-abbrev pub stoppedAt : Answer → ℕ → ℕ → ℕ → Table → Answered
-stoppedAt last taken written next t = record { last = last; ran = record { number = 0; taken = taken; written = written; next = next; table = t } }
+-- a run that stops
+abbrev pub stoppedAt : ℕ → ℕ → ℕ → Table → Ran
+stoppedAt taken written next t = record { number = 0; taken = taken; written = written; next = next; table = t }
 
 -- ---- buffer after buffer
 

@@ -40,7 +40,7 @@ cannotTell t from p to =
 
 -- "message place empty or above 63"
 unfoldable pub noMessageAt : Table → ℕ → Bool
-noMessageAt t j = noMessageThere j (messageAt t j)
+noMessageAt t j = noMessageThere j (messageAt t j .used)
 
 -- "some site of the table has no verdict on it (one that never heard of it included), or a message names it"
 unfoldable pub cannotRetire : Table → ℕ → Bool

@@ -1,5 +1,6 @@
-// The eight steps on the whole table: document 01, "Steps" and "Numbers given back". A step takes the few pieces that it is about out of the
-// table, plans on those (crate `plans`), and puts them back.
+// The eight steps on the whole table: document 01, "Steps" and "Numbers given back". The table is taken apart into rows, each step changes the
+// few that it is about where they stand, and the table is put together again.
+mod acting;
 pub mod answer;
 mod answering;
 pub mod run;

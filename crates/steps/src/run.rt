@@ -2,11 +2,8 @@
 ghost use mathlib.Core.Path.{_≡_};
 ghost use Prim.Native.Nat.{_≤_};
 ghost use lib.ListN.{length};
-ghost use Rattle.steps.specs.Night.{noPart, ran, ranAs, ranInto};
-use crate::answering::answer_from;
-use crate::answering::bytes_in;
-use crate::answering::is_full;
-use record::read_record;
+ghost use Rattle.steps.specs.Night.{ran, ranInto};
+use crate::answering::answer_all;
 use table::data::Table;
 use table::sound::sound;
 
@@ -18,19 +15,6 @@ pub struct Ran {
     pub written: usize,
     pub next: u64,
     pub table: Table,
-}
-
-// No record is taken.
-fn take_none(table: Table, next: u64) -> Ran
-    ensures { λ r. ⌜ r ≡ ranAs (noPart table next) ⌝ }
-{
-    Ran {
-        number: 0,
-        taken: 0,
-        written: 0,
-        next,
-        table,
-    }
 }
 
 // Takes the records of a buffer, from record number `nth` on, and writes their lines at the front of the output. It stops where a record
@@ -49,15 +33,5 @@ pub fn run(t: Table, nth: u64, input: &[u8], output: &mut [u8]) -> Ran
             table: t,
         };
     }
-    if is_full(bytes_in(output), nth) {
-        return take_none(t, nth);
-    }
-    let first = read_record(input);
-    let size = first.next;
-    if size == 0 {
-        return take_none(t, nth);
-    }
-    let out = answer_from(t, first, nth, input, output);
-    let r = out.ran;
-    r
+    answer_all(t, nth, input, output)
 }

@@ -114,9 +114,6 @@ pub ruleset choices = (eq-then, eq-else, not-then, not-else)
 
 -- ---- what a call was given goes into what it means
 
-pub implies-means : {r t a : Bool} (b : Bool) → r ≡ implies t b → t ≡ a → r ≡ implies a b
-implies-means b e f = rw (e, f)
-
 pub implies-both : {r t u a b : Bool} → r ≡ implies t u → t ≡ a → u ≡ b → r ≡ implies a b
 implies-both e f g = rw (← f, ← g) e
 
@@ -130,9 +127,6 @@ module _ {r : Bool} {v : ℤ} where
 
   pub range-means : r ≡ inRange (toZ w32 (ofZ w32 v)) → SFits w32 v → r ≡ inRange v
   range-means e f = rw (toZ-ofZ f) at e
-
-  pub implies-range : {t a : Bool} → r ≡ implies t (inRange (toZ w32 (ofZ w32 v))) → SFits w32 v → t ≡ a → r ≡ implies a (inRange v)
-  implies-range e f g = rw (toZ-ofZ f, g) at e
 
 -- the same of an element of an array
 pub sized : {v : ℤ} → mag v < 2147483648 → SFits w32 v

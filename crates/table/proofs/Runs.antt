@@ -1,24 +1,28 @@
--- Stamps and values asked one behind the other: a stamp that stands behind the same stamp needs no test, and tests that are all made.
+-- Stamps and values asked one behind the other: a stamp that stands behind the same stamp needs no test, tests that are all made, and the items
+-- of a set.
 use mathlib.Core.Path.{_≡_, refl, sym, _∙_}
 use mathlib.Core.Bool.{Bool, true, false, not, _&&_, cond, and-true}
 use mathlib.Core.List.{List}
-use Prim.Native.Nat.{ℕ, suc, _+_, _≤_, _<_}
+use Prim.Native.Nat.{ℕ, suc, _+_, _-_, _^_, _≤_, _<_}
 use native.Mathlib.Numerals.{add-one}
 use native.Mathlib.Omega.{arith}
 use borrow.Author.Tests.{eq-eqb, ne-eqb, le-leb, not-true, not-false}
+use lib.Bits.{bitAnd}
+use lib.Count.{trailingZeros}
 use lib.Dec.{eqb}
 use lib.IntN.{ℤ, pos}
 use lib.ListN.{getD}
-use Rattle.kit.specs.Range.{all, implies}
-use Rattle.kit.proofs.Bools.{and-left, and-right, both-true, implying, by-test, by-eq, same-test}
-use Rattle.kit.proofs.Ranges.{all-suc, all-at, all-of}
+use Rattle.kit.specs.Range.{any, all, implies}
+use Rattle.kit.proofs.Bools.{and-left, and-right, both-true, by-test, by-eq, same-test}
+use Rattle.kit.proofs.Ranges.{any-at, all-suc, all-at, all-of, all-miss}
 use Rattle.readings.specs.Readings.{inRange, isZero}
 use Rattle.readings.proofs.Orders.{zero-is}
 use Rattle.sets.specs.Sets.{member}
+use Rattle.sets.proofs.Lowest.{Sought, sought-start, sought-item, sought-less, sought-over, sought-past, sought-more, item-in}
 use Rattle.stamps.specs.Stamps.{wellFormed, timeOf}
 use Rattle.vote.specs.declared.data.Site.{Site}
 use Rattle.table.specs.Parts.{timeRight, valueRight, readingSound}
-use Rattle.table.specs.Sound.{baseStampsAllowed, valuesAllowed, readingAllowed}
+use Rattle.table.specs.Sound.{readingAllowed}
 
 -- ---- tests that are all made: `good = are_both(good, test(i));`
 
@@ -43,13 +47,6 @@ pub ruleset mades = (made-none, made-more, made-over, arith)
 pub passes : {r a : Bool} → r ≡ a → not r ≡ false → a ≡ true
 passes {r} e f = sym e ∙ not-false r f
 
-pub same-formed : (n : ℕ) {stamp last : ℕ} → stamp ≡ last → wellFormed n last ≡ true → true ≡ wellFormed n stamp
-same-formed n e h = rw e (sym h)
-
-pub blank-formed : (n : ℕ) → wellFormed n 0 ≡ true
-unfolding wellFormed
-blank-formed n = refl
-
 abbrev pub stampRight : ℕ → List ℕ → ℕ → Bool
 stampRight n lasts stamp = wellFormed n stamp && timeRight lasts stamp
 
@@ -60,19 +57,48 @@ pub blank-right : (n : ℕ) (lasts : List ℕ) → stampRight n lasts 0 ≡ true
 unfolding wellFormed timeRight
 blank-right n lasts = le-leb 0 (getD lasts 0 0) (omega arith)
 
--- ---- all 24, so those that are asked
+-- ---- `if !g(item) { return false; }` for the items of a set, lowest first, computes `all n (λ i. implies (member s i) (g i))`
 
-pub all-based : (n base : ℕ) (stamps : List ℕ) {r : Bool} → r ≡ all 24 (λ i. wellFormed n (getD stamps i 0)) → r ≡ true → true ≡ baseStampsAllowed n base stamps
-unfolding baseStampsAllowed
-all-based n base stamps e h =
-    sym (all-of 24 (λ i. implies (member base i) (wellFormed n (getD stamps i 0)))
-    (λ i l. implying (member base i) (λ _. all-at (λ k. wellFormed n (getD stamps k 0)) 24 i (sym e ∙ h) l)))
+unfailed : (a b : Bool) → (a && not b) ≡ false → implies a b ≡ true
+unfailed true true e = refl
+unfailed true false e = sym e
+unfailed false b e = refl
 
-pub all-valued : (update : ℕ) (values : List ℤ) {r : Bool} → r ≡ all 24 (λ i. inRange (getD values i (pos 0))) → r ≡ true → true ≡ valuesAllowed update values
-unfolding valuesAllowed
-all-valued update values e h =
-    sym (all-of 24 (λ i. implies (member update i) (inRange (getD values i (pos 0))))
-    (λ i l. implying (member update i) (λ _. all-at (λ k. inRange (getD values k (pos 0))) 24 i (sym e ∙ h) l)))
+module _ (s : ℕ) (g : ℕ → Bool) where
+  -- none fails
+  all-asked : (n : ℕ) → false ≡ any n (λ i. member s i && not (g i)) → true ≡ all n (λ i. implies (member s i) (g i))
+  all-asked n e =
+      sym (all-of n (λ i. implies (member s i) (g i)) (λ i h. unfailed (member s i) (g i) (any-at (λ k. member s k && not (g k)) n i (sym e) h)))
+
+  -- no item that is gone fails
+  pub record Passed (left : ℕ) : Type 0 where
+    pub sought : Sought s (λ i. not (g i)) left
+
+  pub passed-start : s < 2 ^ 32 → Passed s
+  passed-start h = record { sought = sought-start s (λ i. not (g i)) h }
+
+  pub passed-over : (n left : ℕ) → Passed left → left ≡ 0 → true ≡ all n (λ i. implies (member s i) (g i))
+  passed-over n left v z = all-asked n (sought-over s (λ i. not (g i)) n left (v .sought) z)
+
+  module _ (left : ℕ) (v : Passed left) (ne : left ≡ 0 → ⊥) where
+    pub passed-item : trailingZeros 32 left < 32
+    passed-item = sought-item s (λ i. not (g i)) left (v .sought) ne
+
+    pub passed-less : bitAnd left (left - 1) < left
+    passed-less = sought-less s (λ i. not (g i)) left (v .sought) ne
+
+    -- the first that is left stands behind the n that are asked for
+    pub passed-past : (n : ℕ) → n ≤ trailingZeros 32 left → true ≡ all n (λ i. implies (member s i) (g i))
+    passed-past n h = all-asked n (sought-past s (λ i. not (g i)) left (v .sought) ne n h)
+
+    module _ {r : Bool} (e : r ≡ g (trailingZeros 32 left)) where
+      pub passed-failed : (n : ℕ) → trailingZeros 32 left < n → not r ≡ true → false ≡ all n (λ i. implies (member s i) (g i))
+      passed-failed n h f =
+          sym (all-miss n (trailingZeros 32 left) (λ i. implies (member s i) (g i)) h
+          (rw (item-in s (v .sought .from) left ne (v .sought .fits) (v .sought .left-is)) (sym e ∙ not-true r f)))
+
+      pub passed-more : not r ≡ false → Passed (bitAnd left (left - 1))
+      passed-more f = record { sought = sought-more s (λ i. not (g i)) left (v .sought) ne (rw (← e) f) }
 
 -- ---- a copy: its stamps, and its values beside them
 

@@ -19,7 +19,6 @@ use crate::blank::is_blank_vote;
 use crate::data::Message;
 use crate::marks::is_in_time;
 use crate::marks::set_of;
-use crate::requests::are_both;
 use crate::requests::is_request_allowed;
 use vote::consider::is_deferred;
 use vote::consider::is_ok;
@@ -112,6 +111,16 @@ fn is_value_right(stamp: u64, value: i32) -> bool
         return readings::is_zero(value);
     }
     readings::is_in_range(value)
+}
+
+// Whether a and b hold.
+fn are_both(a: bool, b: bool) -> bool
+    ensures { λ r. ⌜ r ≡ (a && b) ⌝ }
+{
+    if a {
+        return b;
+    }
+    false
 }
 
 // Whether each value of a copy is right beside its stamp. No turn leaves the loop, so that the tests can be made side by side.

@@ -22,6 +22,14 @@ use Rattle.vote.specs.declared.data.Head.{Head}
 use Rattle.vote.specs.declared.data.Request.{Request}
 use Rattle.vote.specs.declared.data.Vote.{Vote}
 
+-- ---- what the code asks of a head o that it has made is what is asked of the head x that it is
+
+pub conflict-means : (q o x : Head) {r b : Bool} → r ≡ conflicts q o → o ≡ x → r ≡ b → conflicts q x ≡ b
+conflict-means q o x e f g = rw (← f, ← e) g
+
+pub above-means : (q o x : Head) {r b : Bool} → r ≡ (conflicts q o && outranks o q) → o ≡ x → r ≡ b → (conflicts q x && outranks x q) ≡ b
+above-means q o x e f g = rw (← f, ← e) g
+
 -- ---- the four questions, item by item and place by place
 
 module _ (base : ℕ) (based held : List ℕ) where

@@ -13,3 +13,7 @@ pub mod MarkKinds
 pub mod After
 pub mod Shapes
 pub mod Together
+pub mod VoteNumbers
+pub mod NoteRows
+pub mod Heads
+pub mod Elements

@@ -1,16 +1,13 @@
 -- A site's word on the request at a place, as the code writes it; `at` is the place as an index, and a place above 15 has none.
 use mathlib.Core.Path.{_≡_, sym}
 use mathlib.Core.List.{List}
-use Prim.Native.Nat.{ℕ, _<_, _≤_}
+use Prim.Native.Nat.{ℕ, _+_, _*_, _/_, _%_, _≤_, _<_}
 use native.Mathlib.Omega.{arith}
-use lib.ListN.{length, set, List·getD-eq-default}
+use lib.ListN.{length, getD, set, List·getD-eq-default}
 use lib.Seq.{set-out}
 use Rattle.vote.specs.Data.{noVote, voteAt}
-use Rattle.vote.specs.Verdicts.{withVerdict}
-use Rattle.vote.specs.Notes.{notesNoted}
-use Rattle.vote.specs.Voting.{markPut, withMark}
+use Rattle.vote.specs.Numbers.{markNumber, verdictNumber, markedRow, notedRow}
 use Rattle.vote.specs.declared.data.Mark.{Mark}
-use Rattle.vote.specs.declared.data.Notes.{Notes}
 use Rattle.vote.specs.declared.data.Verdict.{Verdict}
 use Rattle.vote.specs.declared.data.Vote.{Vote}
 
@@ -20,17 +17,20 @@ vote-out votes l e h = sym (List·getD-eq-default votes noVote (omega arith))
 pub vote-in : (votes : List Vote) {at p : ℕ} → at ≡ p → voteAt votes at ≡ voteAt votes p
 vote-in votes e = rw e
 
-pub marks-out : (votes : List Vote) {at p : ℕ} (m : Mark) → length votes ≡ 16 → at ≡ p → 15 < at → votes ≡ markPut votes p m
-marks-out votes {at} {p} m l e h = sym (set-out votes p (withMark m (voteAt votes p)) (omega arith))
+-- a row of numbers, its mark or its verdict at a place stored anew
+module _ (row : List ℕ) {at p : ℕ} where
+  pub marks-out : (m : Mark) → at ≡ p → length row ≤ at → row ≡ markedRow row p m
+  unfolding markedRow
+  marks-out m e h = sym (set-out row p (markNumber m + 8 * (getD row p 0 / 8)) (omega arith))
 
-pub marks-in : (votes : List Vote) {at p : ℕ} (m : Mark) → at ≡ p → set votes at (withMark m (voteAt votes at)) ≡ markPut votes p m
-marks-in votes m e = rw e
+  pub marks-in : (m : Mark) {c : ℕ} → at ≡ p → c ≡ markNumber m + 8 * (getD row at 0 / 8) → set row at c ≡ markedRow row p m
+  unfolding markedRow
+  marks-in m e f = rw (f, e)
 
-module _ (k : Notes) {at p : ℕ} where
-  pub notes-out : (d : Verdict) → length (k .votes) ≡ 16 → at ≡ p → 16 ≤ at → k ≡ notesNoted k p d
-  unfolding notesNoted
-  notes-out d l e h = rw (set-out (k .votes) p (withVerdict d (voteAt (k .votes) p)) (omega arith))
+  pub notes-out : (d : Verdict) → at ≡ p → length row ≤ at → row ≡ notedRow row p d
+  unfolding notedRow
+  notes-out d e h = sym (set-out row p (getD row p 0 % 8 + 8 * verdictNumber d) (omega arith))
 
-  pub notes-in : (d : Verdict) → at ≡ p → _≡_ {A = Notes} (record { votes = set (k .votes) at (withVerdict d (voteAt (k .votes) at)); queue = k .queue; waiting = k .waiting }) (notesNoted k p d)
-  unfolding notesNoted
-  notes-in d e = rw e
+  pub notes-in : (d : Verdict) {c : ℕ} → at ≡ p → c ≡ getD row at 0 % 8 + 8 * verdictNumber d → set row at c ≡ notedRow row p d
+  unfolding notedRow
+  notes-in d e f = rw (f, e)

@@ -17,8 +17,11 @@ use Rattle.vote.specs.declared.data.Site.{Site}
 
 -- ---- as the code asks and makes it; `at` is a number of the site as an index
 
+pub queued-behind : (queue : List ℕ) (i : ℕ) → length queue ≤ i → 0 ≡ queuedAt queue i
+queued-behind queue i h = sym (List·getD-eq-default queue 0 h)
+
 pub queued-out : (queue : List ℕ) (i : ℕ) → length queue ≡ 16 → 15 < i → 0 ≡ queuedAt queue i
-queued-out queue i e h = sym (List·getD-eq-default queue 0 (omega arith))
+queued-out queue i e h = queued-behind queue i (omega arith)
 
 module _ (queue : List ℕ) {n at : ℕ} (p : ℕ) (e : at ≡ n) where
   pub joins-full : 15 < at → (n ≡ countJoined n) × (queue ≡ queueJoined queue n p)

@@ -7,13 +7,12 @@ use lib.Dec.{eqb, ltb}
 use lib.IntN.{ℤ}
 use Rattle.kit.proofs.Bools.{by-test}
 use Rattle.vote.specs.Data.{isOk, isDeferred, voteAt}
-use Rattle.vote.specs.Notes.{siteOf, notesMarked, oksVoted, othersVoted, notesDeferred, notesLeft, notesReleased, notesNoted, notesRuled}
+use Rattle.vote.specs.Notes.{Notes, siteOf, notesMarked, oksVoted, othersVoted, notesDeferred, notesLeft, notesReleased, notesNoted, notesRuled}
 use Rattle.vote.specs.Queue.{joinsQueue, leavesQueue, placeInQueue}
 use Rattle.vote.specs.Verdicts.{stampsWritten, valuesWritten, stampsRuled, valuesRuled, writtenUpTo, writtenSite, released, noted, decided, ruled}
 use Rattle.vote.specs.Voting.{marked, countsItself, voted, deferred}
 use Rattle.vote.specs.declared.data.Mark.{Mark}
 use Rattle.vote.specs.declared.data.Mark.the-variants as mark
-use Rattle.vote.specs.declared.data.Notes.{Notes}
 use Rattle.vote.specs.declared.data.Request.{Request}
 use Rattle.vote.specs.declared.data.Verdict.{Verdict}
 use Rattle.vote.specs.declared.data.Verdict.the-variants as verdict

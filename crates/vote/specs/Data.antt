@@ -101,6 +101,10 @@ requestOf h ts vs = record { stamp = h .stamp; base = h .base; update = h .updat
 unfoldable pub headsOf : List Request → List Head
 headsOf rs = listed 16 (λ j. headOf (requestAt rs j))
 
+-- the heads with these stamps, base sets and update sets
+unfoldable pub headsFrom : List ℕ → List ℕ → List ℕ → List Head
+headsFrom names bases updates = listed 16 (λ p. record { stamp = getD names p 0; base = getD bases p 0; update = getD updates p 0 })
+
 -- the head of the request at place j
 abbrev pub headAt : List Head → ℕ → Head
 headAt heads j = getD heads j noHead

@@ -8,3 +8,4 @@ pub mod Queue
 pub mod Voting
 pub mod Verdicts
 pub mod Notes
+pub mod Numbers

@@ -1,4 +1,4 @@
--- What a site has noted, which is handed on by value, and a site put together again of its parts.
+-- What a site has noted, and a site put together again of its parts.
 use Prim.Native.Nat.{ℕ, _-_}
 use mathlib.Core.Bool.{Bool, cond}
 use mathlib.Core.List.{List, []}
@@ -13,9 +13,15 @@ use Rattle.vote.specs.Voters.{onlyVoter, joinVoters}
 use Rattle.vote.specs.Voting.{markPut}
 use Rattle.vote.specs.declared.data.Mark.{Mark}
 use Rattle.vote.specs.declared.data.Mark.the-variants as mark
-use Rattle.vote.specs.declared.data.Notes.{Notes}
 use Rattle.vote.specs.declared.data.Site.{Site}
 use Rattle.vote.specs.declared.data.Verdict.{Verdict}
+use Rattle.vote.specs.declared.data.Vote.{Vote}
+
+-- what a site has said of each request place, and its queue, of which the first `waiting` places count
+pub record Notes : Type 0 where
+  pub votes : List Vote
+  pub queue : List ℕ
+  pub waiting : ℕ
 
 -- the notes of a site
 abbrev pub notesOf : Site → Notes

@@ -28,6 +28,17 @@ joinsQueue s p = withQueue (queueJoined (s .queue) (s .waiting) p) (countJoined 
 unfoldable pub leavesQueue : Site → ℕ → Site
 leavesQueue s i = cond (eqb (s .waiting) 0) s (withQueue (without 0 (s .queue) i) (s .waiting - 1) s)
 
+-- the same of a queue of n, of which n - 1 are left then
+unfoldable pub queueLeft : List ℕ → ℕ → ℕ → List ℕ
+queueLeft queue n i = cond (eqb n 0) queue (without 0 queue i)
+
 -- where request place p stands among the first w of the queue, and w where it does not
 unfoldable pub placeInQueue : List ℕ → ℕ → ℕ → ℕ
 placeInQueue queue w p = first w (λ i. eqb (queuedAt queue i) p)
+
+-- a queue of n without request place p, where it stands there, and how many it has then
+unfoldable pub queueReleased : List ℕ → ℕ → ℕ → List ℕ
+queueReleased queue n p = cond (ltb (placeInQueue queue n p) n) (queueLeft queue n (placeInQueue queue n p)) queue
+
+unfoldable pub countReleased : List ℕ → ℕ → ℕ → ℕ
+countReleased queue n p = cond (ltb (placeInQueue queue n p) n) (n - 1) n

@@ -2,13 +2,15 @@
 ghost use mathlib.Core.Path.{_≡_};
 ghost use mathlib.Core.Bool.{_&&_};
 ghost use mathlib.Core.List.{[]};
-ghost use Rattle.vote.specs.Data.{isOk, isOther, isUnmarked, isDeferred, isOpen, isPending, requestOf};
+ghost use Rattle.vote.specs.Data.{isOk, isOther, isUnmarked, isDeferred, isOpen, isPending, headsFrom, requestOf};
 ghost use Rattle.vote.specs.Consider.{newerCopy, olderCopy, pendingSet, blocked, blockedAbove, considered, markOf, defers};
+ghost use Rattle.vote.specs.Numbers.{voteFrom, votesFrom};
 ghost use Rattle.vote.specs.Requests.{conflicts, outranks};
 use crate::data::Head;
 use crate::data::Mark;
 use crate::data::Verdict;
 use crate::data::Vote;
+use crate::requests::head_from;
 use crate::requests::is_conflicting;
 use crate::requests::is_outranking;
 
@@ -121,25 +123,38 @@ fn is_above(o: Head, q: Head) -> bool
     is_conflicting(q, o) && is_outranking(o, q)
 }
 
+// The same of the number of what is said.
+fn is_pending_number(c: u8) -> bool
+    ensures { λ r. ⌜ r ≡ isPending (voteFrom c) ⌝ }
+{
+    c == 2
+}
+
 // The places of the pending requests, as a set.
-fn pending_in(votes: [Vote; 16]) -> u32
-    ensures { λ r. ⌜ r ≡ pendingSet votes ⌝ }
+fn pending_in(votes: &[u8; 16]) -> u32
+    ensures { λ r. ⌜ r ≡ pendingSet (votesFrom (now (votes .entry))) ⌝ }
 {
     let mut set: u32 = 0;
     for j in 0..16 {
-        set = set + (kit::one_if(is_pending(votes[j])) << j);
+        set = set + (kit::one_if(is_pending_number(votes[j])) << j);
     }
     set
 }
 
 // Whether q conflicts with a pending request. What is left of the pending gives up its lowest place at each turn.
-pub fn is_blocked(heads: [Head; 16], votes: [Vote; 16], q: Head) -> bool
-    ensures { λ r. ⌜ r ≡ blocked heads votes q ⌝ }
+pub fn is_blocked<'a>(
+    names: &'a [u64; 16],
+    bases: &'a [u32; 16],
+    updates: &'a [u32; 16],
+    votes: &'a [u8; 16],
+    q: Head,
+) -> bool
+    ensures { λ r. ⌜ r ≡ blocked (headsFrom (now (names .entry)) (now (bases .entry)) (now (updates .entry))) (votesFrom (now (votes .entry))) q ⌝ }
 {
     let mut left = pending_in(votes);
     while left != 0 {
         let j = u32::trailing_zeros(left) as usize;
-        if is_conflicting(q, heads[j]) {
+        if is_conflicting(q, head_from(names, bases, updates, j)) {
             return true;
         }
         left = left & (left - 1);
@@ -148,13 +163,19 @@ pub fn is_blocked(heads: [Head; 16], votes: [Vote; 16], q: Head) -> bool
 }
 
 // Whether q conflicts with a pending request of higher priority.
-pub fn is_blocked_above(heads: [Head; 16], votes: [Vote; 16], q: Head) -> bool
-    ensures { λ r. ⌜ r ≡ blockedAbove heads votes q ⌝ }
+pub fn is_blocked_above<'a>(
+    names: &'a [u64; 16],
+    bases: &'a [u32; 16],
+    updates: &'a [u32; 16],
+    votes: &'a [u8; 16],
+    q: Head,
+) -> bool
+    ensures { λ r. ⌜ r ≡ blockedAbove (headsFrom (now (names .entry)) (now (bases .entry)) (now (updates .entry))) (votesFrom (now (votes .entry))) q ⌝ }
 {
     let mut left = pending_in(votes);
     while left != 0 {
         let j = u32::trailing_zeros(left) as usize;
-        if is_above(heads[j], q) {
+        if is_above(head_from(names, bases, updates, j), q) {
             return true;
         }
         left = left & (left - 1);
@@ -162,16 +183,18 @@ pub fn is_blocked_above(heads: [Head; 16], votes: [Vote; 16], q: Head) -> bool
     false
 }
 
-// What a site makes of the request with head q and base stamps `based`, where `heads` are the table's requests, `votes` what it has said of
-// them and `held` its copy's stamps. Rule 5 comes before 3 and 4: who conflicts with no pending request conflicts with none of higher priority.
+// What a site makes of the request with head q and base stamps `based`, where `names`, `bases` and `updates` are the heads of the table's
+// requests, `votes` what it has said of them and `held` its copy's stamps. Rule 5 comes before 3 and 4: who conflicts with no pending request conflicts with none of higher priority.
 pub fn consider<'a>(
-    heads: [Head; 16],
-    votes: [Vote; 16],
+    names: &'a [u64; 16],
+    bases: &'a [u32; 16],
+    updates: &'a [u32; 16],
+    votes: &'a [u8; 16],
     held: &'a [u64; 24],
     q: Head,
     based: &'a [u64; 24],
 ) -> Outcome
-    ensures { λ r. ⌜ r ≡ considered heads votes (now (held .entry)) (requestOf q (now (based .entry)) []) ⌝ }
+    ensures { λ r. ⌜ r ≡ considered (headsFrom (now (names .entry)) (now (bases .entry)) (now (updates .entry))) (votesFrom (now (votes .entry))) (now (held .entry)) (requestOf q (now (based .entry)) []) ⌝ }
 {
     if is_newer(q.base, based, held) {
         return Outcome::Rej;
@@ -179,10 +202,10 @@ pub fn consider<'a>(
     if is_older(q.base, based, held) {
         return Outcome::DeferBase;
     }
-    if !is_blocked(heads, votes, q) {
+    if !is_blocked(names, bases, updates, votes, q) {
         return Outcome::Ok;
     }
-    if is_blocked_above(heads, votes, q) {
+    if is_blocked_above(names, bases, updates, votes, q) {
         return Outcome::Dr;
     }
     Outcome::DeferPending

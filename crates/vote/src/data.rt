@@ -50,11 +50,3 @@ pub struct Site {
     pub oks: [bool; 112],
     pub others: [bool; 112],
 }
-
-// What a site has noted: what it has said of each request place, and its queue. This part of a site is handed on by value; its copy and the
-// voters that it knows are lent.
-pub struct Notes {
-    pub votes: [Vote; 16],
-    pub queue: [u8; 16],
-    pub waiting: u8,
-}

@@ -3,7 +3,7 @@ ghost use mathlib.Core.Path.{_≡_};
 ghost use mathlib.Core.Bool.{_&&_};
 ghost use lib.Dec.{eqb};
 ghost use Rattle.kit.specs.Range.{implies};
-ghost use Rattle.vote.specs.Data.{blankRequest, headOf, headsOf};
+ghost use Rattle.vote.specs.Data.{blankRequest, headOf, headAt, headsFrom};
 ghost use Rattle.vote.specs.Requests.{covers, conflicts, outranks, concurrent};
 use crate::data::Head;
 use crate::data::Request;
@@ -32,24 +32,27 @@ pub fn head_of(q: Request) -> Head
     }
 }
 
-// The heads of all requests, by place.
-pub fn heads_of(rs: [Request; 16]) -> [Head; 16]
-    ensures { λ r. ⌜ r ≡ headsOf rs ⌝ }
+// The head at place p of those with these stamps, base sets and update sets; an empty one of a place above 15.
+pub fn head_from<'a>(
+    names: &'a [u64; 16],
+    bases: &'a [u32; 16],
+    updates: &'a [u32; 16],
+    p: usize,
+) -> Head
+    ensures { λ r. ⌜ r ≡ headAt (headsFrom (now (names .entry)) (now (bases .entry)) (now (updates .entry))) p ⌝ }
 {
-    let none = Head {
-        stamp: 0,
-        base: 0,
-        update: 0,
-    };
-    let mut heads = [none; 16];
-    for j in 0..16 {
-        heads[j] = Head {
-            stamp: rs[j].stamp,
-            base: rs[j].base,
-            update: rs[j].update,
+    if 15 < p {
+        return Head {
+            stamp: 0,
+            base: 0,
+            update: 0,
         };
     }
-    heads
+    Head {
+        stamp: names[p],
+        base: bases[p],
+        update: updates[p],
+    }
 }
 
 // Whether a's update set meets b's base set.

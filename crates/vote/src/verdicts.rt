@@ -1,20 +1,20 @@
 // Verdicts at a site.
 ghost use mathlib.Core.Path.{_≡_};
+ghost use Prim.Native.Nat.{_+_, _*_, _%_};
 ghost use mathlib.Core.List.{[]};
 ghost use Rattle.vote.specs.Data.{requestOf};
 ghost use Rattle.vote.specs.Verdicts.{verdictDue, stampsWritten, valuesWritten, stampsRuled, valuesRuled};
-ghost use Rattle.vote.specs.Notes.{notesReleased, notesNoted, notesRuled};
+ghost use Rattle.vote.specs.Notes.{notesRuled};
+ghost use Rattle.vote.specs.Numbers.{verdictNumber, notesFrom, notedRow, ruledRow};
 use crate::consider::is_deferred;
 use crate::data::Head;
 use crate::data::Mark;
-use crate::data::Notes;
 use crate::data::Verdict;
-use crate::data::Vote;
-use crate::queue::leave_queue;
-use crate::queue::place_in_queue;
+use crate::numbers::said_at;
+use crate::numbers::verdict_number;
+use crate::queue::release;
 use crate::voters::count_known;
 use crate::voting::put_mark;
-use crate::voting::vote_at;
 
 // The verdict that the voters known of place p call for, of n sites: Open while they are too few for either.
 pub fn verdict_due<'a>(oks: &'a [bool; 112], others: &'a [bool; 112], n: u8, p: u8) -> Verdict
@@ -67,42 +67,44 @@ pub fn write_ruled<'a>(
     }
 }
 
-// The request at place p leaves the queue, where it stands there, and its mark becomes none.
-pub fn release(mut k: Notes, p: u8) -> Notes
-    ensures { λ r. ⌜ r ≡ notesReleased k p ⌝ }
+// The number of what is said, with the verdict v.
+fn number_with_verdict(c: u8, v: Verdict) -> u8
+    ensures { λ r. ⌜ r ≡ c % 8 + 8 * verdictNumber v ⌝ }
 {
-    let queue = k.queue;
-    let i = place_in_queue(queue, k.waiting, p);
-    let votes = k.votes;
-    let unmarked = put_mark(votes, p, Mark::None);
-    k.votes = unmarked;
-    if i < kit::index(k.waiting) {
-        return leave_queue(k, i);
-    }
-    k
+    c % 8 + 8 * verdict_number(v)
 }
 
-// The verdict v on the request at place p is noted.
-pub fn note_verdict(mut k: Notes, p: u8, v: Verdict) -> Notes
-    ensures { λ r. ⌜ r ≡ notesNoted k p v ⌝ }
+// The verdict v on the request at place p is noted, in a row of what a site has said.
+pub fn note_verdict(votes: &mut [u8], p: u8, v: Verdict)
+    ensures { λ _. ⌜ now (votes .exit) ≡ notedRow (now (votes .entry)) p v ⌝ }
 {
     let at = kit::index(p);
-    if at < 16 {
-        let old = k.votes[at];
-        k.votes[at] = Vote { verdict: v, ..old };
+    if votes.len() <= at {
+        return;
     }
-    k
+    votes[at] = number_with_verdict(votes[at], v);
 }
 
-// The request at place p gets the verdict v; a deferred one leaves the queue and its mark becomes none.
-pub fn rule(k: Notes, p: u8, v: Verdict) -> Notes
-    ensures { λ r. ⌜ r ≡ notesRuled k p v ⌝ }
+// The request at place p gets the verdict v; a deferred one leaves the queue of `waiting` and its mark becomes none. How many wait then.
+pub fn rule<'a>(
+    votes: &'a mut [u8; 16],
+    queue: &'a mut [u8; 16],
+    waiting: u8,
+    p: u8,
+    v: Verdict,
+) -> u8
+    ensures votes { λ _. ⌜ now (votes .exit) ≡ ruledRow (now (votes .entry)) p v ⌝ }
+    ensures places { λ _. ⌜ now (queue .exit) ≡ notesRuled (notesFrom (now (votes .entry)) (now (queue .entry)) waiting) p v .queue ⌝ }
+    ensures count { λ r. ⌜ r ≡ notesRuled (notesFrom (now (votes .entry)) (now (queue .entry)) waiting) p v .waiting ⌝ }
+    ensures notes { λ r. ⌜ notesFrom (now (votes .exit)) (now (queue .exit)) r ≡ notesRuled (notesFrom (now (votes .entry)) (now (queue .entry)) waiting) p v ⌝ }
 {
-    let votes = k.votes;
-    let old = vote_at(votes, p);
+    let old = said_at(votes, p);
     let m = old.mark;
     if is_deferred(m) {
-        return note_verdict(release(k, p), p, v);
+        put_mark(votes, p, Mark::None);
+        note_verdict(votes, p, v);
+        return release(queue, waiting, p);
     }
-    note_verdict(k, p, v)
+    note_verdict(votes, p, v);
+    waiting
 }

@@ -32,8 +32,8 @@ pub fn only_voter(u: u8) -> [bool; 7]
 }
 
 // Joins these voters of place p to the known ones.
-pub fn join_voters(known: &mut [bool; 112], p: u8, more: [bool; 7])
-    ensures { λ _. ⌜ now (known .exit) ≡ joinVoters (now (known .entry)) p more ⌝ }
+pub fn join_voters<'a, 'b>(known: &'a mut [bool; 112], p: u8, more: &'b [bool; 7])
+    ensures { λ _. ⌜ now (known .exit) ≡ joinVoters (now (known .entry)) p (now (more .entry)) ⌝ }
 {
     let at = kit::index(p);
     if 15 < at {

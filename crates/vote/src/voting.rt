@@ -1,13 +1,17 @@
 // A site marks a request: it votes, or defers.
 ghost use mathlib.Core.Path.{_≡_};
+ghost use Prim.Native.Nat.{_+_, _*_, _/_};
 ghost use Rattle.vote.specs.Data.{voteAt};
+ghost use Rattle.vote.specs.Notes.{notesDeferred, oksVoted, othersVoted};
+ghost use Rattle.vote.specs.Numbers.{markNumber, markedRow, votesFrom, notesFrom};
 ghost use Rattle.vote.specs.Voting.{markPut};
-ghost use Rattle.vote.specs.Notes.{notesMarked, notesDeferred, oksVoted, othersVoted};
+ghost use Rattle.vote.specs.Queue.{queueJoined, countJoined};
+ghost use Rattle.vote.specs.declared.data.Mark.the-variants as mark;
 use crate::consider::is_ok;
 use crate::data::Mark;
-use crate::data::Notes;
 use crate::data::Verdict;
 use crate::data::Vote;
+use crate::numbers::mark_number;
 use crate::queue::join_queue;
 use crate::voters::join_voters;
 use crate::voters::only_voter;
@@ -26,53 +30,54 @@ pub fn vote_at(votes: [Vote; 16], p: u8) -> Vote
     votes[at]
 }
 
-// What a site has said, with the mark m on the request at place p.
-pub fn put_mark(mut votes: [Vote; 16], p: u8, m: Mark) -> [Vote; 16]
-    ensures { λ r. ⌜ r ≡ markPut votes p m ⌝ }
+// The number of what is said, with the mark m.
+fn number_with_mark(c: u8, m: Mark) -> u8
+    ensures { λ r. ⌜ r ≡ markNumber m + 8 * (c / 8) ⌝ }
+{
+    mark_number(m) + 8 * (c / 8)
+}
+
+// The request at place p gets the mark m, in a row of what a site has said.
+pub fn put_mark(votes: &mut [u8], p: u8, m: Mark)
+    ensures { λ _. ⌜ now (votes .exit) ≡ markedRow (now (votes .entry)) p m ⌝ }
 {
     let at = kit::index(p);
-    if 15 < at {
-        return votes;
+    if votes.len() <= at {
+        return;
     }
-    let v = votes[at];
-    votes[at] = Vote { mark: m, ..v };
-    votes
+    votes[at] = number_with_mark(votes[at], m);
 }
 
 // The site `me` votes m on the request at place p; the vote counts at once among the voters that it knows.
 pub fn cast_vote<'a>(
-    mut k: Notes,
+    votes: &'a mut [u8; 16],
     oks: &'a mut [bool; 112],
     others: &'a mut [bool; 112],
     me: u8,
     p: u8,
     m: Mark,
-) -> Notes
-    ensures notes { λ r. ⌜ r ≡ notesMarked k p m ⌝ }
+)
+    ensures votes { λ _. ⌜ now (votes .exit) ≡ markedRow (now (votes .entry)) p m ⌝ }
+    ensures said { λ _. ⌜ votesFrom (now (votes .exit)) ≡ markPut (votesFrom (now (votes .entry))) p m ⌝ }
     ensures oks { λ _. ⌜ now (oks .exit) ≡ oksVoted me (now (oks .entry)) p m ⌝ }
     ensures others { λ _. ⌜ now (others .exit) ≡ othersVoted me (now (others .entry)) p m ⌝ }
 {
-    let votes = k.votes;
-    let marked = put_mark(votes, p, m);
-    k.votes = marked;
+    put_mark(votes, p, m);
     let own = only_voter(me);
     if is_ok(m) {
-        join_voters(oks, p, own);
-        return k;
+        join_voters(oks, p, &own);
+        return;
     }
-    join_voters(others, p, own);
-    k
+    join_voters(others, p, &own);
 }
 
-// The site defers the request at place p, which joins the end of its queue.
-pub fn defer(mut k: Notes, p: u8) -> Notes
-    ensures { λ r. ⌜ r ≡ notesDeferred k p ⌝ }
+// The site defers the request at place p, which joins the end of its queue of `waiting`; how many wait then.
+pub fn defer<'a>(votes: &'a mut [u8; 16], queue: &'a mut [u8; 16], waiting: u8, p: u8) -> u8
+    ensures votes { λ _. ⌜ now (votes .exit) ≡ markedRow (now (votes .entry)) p mark.Deferred ⌝ }
+    ensures places { λ _. ⌜ now (queue .exit) ≡ queueJoined (now (queue .entry)) waiting p ⌝ }
+    ensures count { λ r. ⌜ r ≡ countJoined waiting ⌝ }
+    ensures notes { λ r. ⌜ notesFrom (now (votes .exit)) (now (queue .exit)) r ≡ notesDeferred (notesFrom (now (votes .entry)) (now (queue .entry)) waiting) p ⌝ }
 {
-    let votes = k.votes;
-    let marked = put_mark(votes, p, Mark::Deferred);
-    k.votes = marked;
-    let n = k.waiting;
-    let more = join_queue(&mut k.queue, n, p);
-    k.waiting = more;
-    k
+    put_mark(votes, p, Mark::Deferred);
+    join_queue(queue, waiting, p)
 }

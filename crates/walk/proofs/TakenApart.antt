@@ -13,15 +13,17 @@ use Rattle.kit.specs.Lists.{listed}
 use Rattle.sets.specs.Sets.{member}
 use Rattle.kit.proofs.Bools.{by-eq, by-lt}
 use Rattle.kit.proofs.Listings.{Filled, filled-put, filled-end, length-listed, listed-at, listed-same, listed-of}
-use Rattle.vote.specs.Data.{noHead, noRequest, headAt, headOf, headsOf, requestAt, requestIn, requestOf, blankRequest}
+use Rattle.kit.proofs.Turns.{listed-is}
+use Rattle.vote.specs.Data.{noHead, noRequest, headAt, headOf, headsOf, headsFrom, requestAt, requestIn, requestOf, blankRequest}
 use Rattle.vote.specs.declared.data.Head.{Head}
 use Rattle.vote.specs.declared.data.Request.{Request}
-use Rattle.walk.specs.Parts.{rowItem, rowAt, rowUpTo, withRow, storedRow, rowsUpTo, requestsFrom, basedOf, newsOf}
+use Rattle.vote.proofs.Heads.{length-heads, heads-at, heads-set}
+use Rattle.walk.specs.Parts.{rowItem, rowAt, rowUpTo, withRow, storedRow, rowsUpTo, requestsFrom, basedOf, newsOf, namesOf, basesOf, updatesOf}
 
 -- ---- a row read: `at` is the place as an index
 
-pub head-in : (heads : List Head) {at p : ℕ} → at ≡ p → headAt heads at ≡ headAt heads p
-head-in heads e = ap (headAt heads) e
+pub head-in : (heads : List Head) {at p : ℕ} {q : Head} → at ≡ p → q ≡ headAt heads at → q ≡ headAt heads p
+head-in heads e f = f ∙ ap (headAt heads) e
 
 -- there is no head of no place
 pub no-head : (heads : List Head) {at p : ℕ} → at ≡ p → 15 < at → length heads ≡ 16 → noHead ≡ headAt heads p
@@ -193,28 +195,62 @@ module _ (heads : List Head) (based : List ℕ) (news : List ℤ) where
   unfolding requestsFrom
   parts-over d i r h w = filled-end d 16 partOf i r h w
 
+-- ---- the heads in their three rows
+
+-- the heads of requests
+heads-apart : (rs : List Request) → headsFrom (namesOf rs) (basesOf rs) (updatesOf rs) ≡ headsOf rs
+unfolding headsFrom headsOf namesOf basesOf updatesOf
+heads-apart rs =
+    listed-same 16 (λ p. record { stamp = getD (namesOf rs) p 0; base = getD (basesOf rs) p 0; update = getD (updatesOf rs) p 0 }) (λ p. headOf (requestAt rs p))
+    (λ p h. rw (
+      listed-at 16 p (λ j. requestAt rs j .stamp) 0 h,
+      listed-at 16 p (λ j. requestAt rs j .base) 0 h,
+      listed-at 16 p (λ j. requestAt rs j .update) 0 h,
+    ))
+
+module _ (names bases updates based : List ℕ) (news : List ℤ) where
+  -- the three rows of requests put together of them
+  pub part-names : length names ≡ 16 → namesOf (requestsFrom (headsFrom names bases updates) based news) ≡ names
+  unfolding namesOf
+  part-names l =
+      listed-is 16 (λ p. requestAt (requestsFrom (headsFrom names bases updates) based news) p .stamp) 0 names l
+      (λ p h. rw (part-at (headsFrom names bases updates) based news p h, heads-at names bases updates p h))
+
+  pub part-bases : length bases ≡ 16 → basesOf (requestsFrom (headsFrom names bases updates) based news) ≡ bases
+  unfolding basesOf
+  part-bases l =
+      listed-is 16 (λ p. requestAt (requestsFrom (headsFrom names bases updates) based news) p .base) 0 bases l
+      (λ p h. rw (part-at (headsFrom names bases updates) based news p h, heads-at names bases updates p h))
+
+  pub part-updates : length updates ≡ 16 → updatesOf (requestsFrom (headsFrom names bases updates) based news) ≡ updates
+  unfolding updatesOf
+  part-updates l =
+      listed-is 16 (λ p. requestAt (requestsFrom (headsFrom names bases updates) based news) p .update) 0 updates l
+      (λ p h. rw (part-at (headsFrom names bases updates) based news p h, heads-at names bases updates p h))
+
 -- requests taken apart and put together again are the same
 pub taken-apart
     : (rs : List Request) → length rs ≡ 16
     → ((p : ℕ) → p < 16 → (length (requestAt rs p .stamps) ≡ 24) × (length (requestAt rs p .values) ≡ 24))
-    → requestsFrom (headsOf rs) (basedOf rs) (newsOf rs) ≡ rs
+    → requestsFrom (headsFrom (namesOf rs) (basesOf rs) (updatesOf rs)) (basedOf rs) (newsOf rs) ≡ rs
 unfolding requestsFrom headsOf basedOf newsOf
 taken-apart rs few long =
-    listed-same 16 (λ p. requestOf (headAt (headsOf rs) p) (rowAt 0 (basedOf rs) p) (rowAt (pos 0) (newsOf rs) p)) (λ p. requestAt rs p)
+    rw (heads-apart rs)
+    (listed-same 16 (λ p. requestOf (headAt (headsOf rs) p) (rowAt 0 (basedOf rs) p) (rowAt (pos 0) (newsOf rs) p)) (λ p. requestAt rs p)
     (λ p h. rw (
       listed-at 16 p (λ j. headOf (requestAt rs j)) noHead h,
       rows-at 0 (λ z. requestAt rs z .stamps) 16 p (omega arith) h (long p h .0),
       rows-at (pos 0) (λ z. requestAt rs z .values) 16 p (omega arith) h (long p h .1),
     ))
-    ∙ sym (listed-of 16 rs noRequest few)
+    ∙ sym (listed-of 16 rs noRequest few))
 
 -- one head and its rows anew are one request anew
-pub parts-set
+head-set
     : (heads : List Head) (based : List ℕ) (news : List ℤ) (i : ℕ) (h : Head) (bs : List ℕ) (vs : List ℤ) → i < 16 → length heads ≡ 16 → length bs ≡ 24
     → length vs ≡ 24 → length based ≡ 384 → length news ≡ 384
     → requestsFrom (set heads i h) (withRow 0 based i bs) (withRow (pos 0) news i vs) ≡ set (requestsFrom heads based news) i (requestOf h bs vs)
 unfolding requestsFrom
-parts-set heads based news i h bs vs b few lb lv l384 m384 =
+head-set heads based news i h bs vs b few lb lv l384 m384 =
     listed-same 16 (λ p. requestOf (headAt (set heads i h) p) (rowAt 0 (withRow 0 based i bs) p) (rowAt (pos 0) (withRow (pos 0) news i vs) p))
     (λ p. requestAt (set (requestsFrom heads based news) i (requestOf h bs vs)) p)
     (λ p k. by-eq p i
@@ -234,6 +270,16 @@ parts-set heads based news i h bs vs b few lb lv l384 m384 =
     )))
     ∙ sym (listed-of 16 (set (requestsFrom heads based news) i (requestOf h bs vs)) noRequest (length-set (requestsFrom heads based news) i (requestOf h bs vs) ∙ length-parts heads based news))
 
+-- the same where the heads are in their three rows
+pub parts-set
+    : (names bases updates based : List ℕ) (news : List ℤ) (i s b u : ℕ) (bs : List ℕ) (vs : List ℤ) → i < 16 → length names ≡ 16 → length bases ≡ 16
+    → length updates ≡ 16 → length bs ≡ 24 → length vs ≡ 24 → length based ≡ 384 → length news ≡ 384
+    → requestsFrom (headsFrom (set names i s) (set bases i b) (set updates i u)) (withRow 0 based i bs) (withRow (pos 0) news i vs)
+    ≡ set (requestsFrom (headsFrom names bases updates) based news) i (requestOf (record { stamp = s; base = b; update = u }) bs vs)
+parts-set names bases updates based news i s b u bs vs h ln lb lu lbs lvs l384 m384 =
+    rw (heads-set names bases updates i s b u ln lb lu h)
+    (head-set (headsFrom names bases updates) based news i (record { stamp = s; base = b; update = u }) bs vs h (length-heads names bases updates) lbs lvs l384 m384)
+
 -- how long the rows are
 pub length-based : (rs : List Request) → length (basedOf rs) ≡ 384
 unfolding basedOf
@@ -242,3 +288,15 @@ length-based rs = length-rows 0 (λ z. requestAt rs z .stamps) 16
 pub length-news : (rs : List Request) → length (newsOf rs) ≡ 384
 unfolding newsOf
 length-news rs = length-rows (pos 0) (λ z. requestAt rs z .values) 16
+
+pub length-names : (rs : List Request) → length (namesOf rs) ≡ 16
+unfolding namesOf
+length-names rs = length-listed 16 (λ p. requestAt rs p .stamp)
+
+pub length-bases : (rs : List Request) → length (basesOf rs) ≡ 16
+unfolding basesOf
+length-bases rs = length-listed 16 (λ p. requestAt rs p .base)
+
+pub length-updates : (rs : List Request) → length (updatesOf rs) ≡ 16
+unfolding updatesOf
+length-updates rs = length-listed 16 (λ p. requestAt rs p .update)

@@ -10,26 +10,28 @@ use lib.IntN.{ℤ, pos}
 use lib.ListN.{length}
 use Rattle.vote.specs.Consider.{considered, markOf, defers}
 use Rattle.vote.specs.Data.{isOpen, headAt, headsOf, noRequest, requestIn, requestOf}
-use Rattle.vote.specs.Notes.{siteOf, notesMarked, oksVoted, othersVoted, notesLeft, notesRuled}
+use Rattle.vote.specs.Notes.{Notes, siteOf, notesMarked, oksVoted, othersVoted, notesLeft, notesRuled}
+use Rattle.vote.specs.Numbers.{votesFrom, notesFrom}
 use Rattle.vote.specs.Verdicts.{verdictDue, stampsRuled, valuesRuled, ruled}
-use Rattle.vote.specs.Voting.{votedFromQueue}
+use Rattle.vote.specs.Queue.{queueLeft}
+use Rattle.vote.specs.Voting.{markPut, votedFromQueue}
 use Rattle.vote.specs.declared.consider.Outcome.{Outcome}
 use Rattle.vote.specs.declared.data.Head.{Head}
 use Rattle.vote.specs.declared.data.Mark.{Mark}
-use Rattle.vote.specs.declared.data.Notes.{Notes}
 use Rattle.vote.specs.declared.data.Request.{Request}
 use Rattle.vote.specs.declared.data.Site.{Site}
 use Rattle.vote.specs.declared.data.Verdict.{Verdict}
 use Rattle.vote.specs.declared.data.Verdict.the-variants as verdict
 use Rattle.vote.specs.declared.data.Vote.{Vote}
 use Rattle.vote.proofs.Considering.{considered-parts}
+use Rattle.vote.proofs.NoteRows.{notes-left, said-marked}
 use Rattle.vote.proofs.Together.{voted-of, left-of, ruled-of}
 use Rattle.vote.proofs.Writes.{ruled-by}
 use Rattle.walk.specs.Parts.{rowAt, requestsFrom}
 use Rattle.walk.specs.Walking.{queued, outcomeAt, votedAt, dueAt, walked, resolved, Settled, answerOf, left, accepts, rejects, acceptsOf, rejectsOf}
 use Rattle.walk.specs.declared.walking.Settled as code
 use Rattle.walk.proofs.TakenApart.{part-in, part-heads}
-use Rattle.walk.proofs.Walks.{fewer-voted, fewer-ruled, few-verdicts, walk-ends, walk-keeps, walk-votes, walk-rules}
+use Rattle.walk.proofs.Walks.{fewer-ruled, few-verdicts, walk-ends, walk-keeps, walk-votes, walk-rules}
 
 -- ---- a turn
 
@@ -110,20 +112,26 @@ module _ (up : Bool) (last : ℕ) (st : List ℕ) (va : List ℤ) (k : Notes) (o
       → siteOf up last ts vs u oks others ≡ ruled (siteOf up last st va k oks others) q p d
   ruled-parts q p d hu ht hv = rw (hu, ht, hv) (sym (ruled-of up last st va k oks others q p d))
 
-  -- the queue is passed
-  pub end-turn
-      : (me n : ℕ) (rs : List Request) (i : ℕ) {w : ℕ} {r : code.Settled} {a : Settled} → answerOf (walked me n rs (siteOf up last st va k oks others) i) ≡ a → w ≤ i
-      → w ≡ k .waiting → r ≡ record { notes = k; accepted = 0; rejected = 0 } → left up last r st va oks others ≡ a
-  unfolding accepts rejects
-  end-turn me n rs i e h hw hr = rw hr (ap answerOf (sym (walk-ends me n rs (siteOf up last st va k oks others) i (rw hw at h))) ∙ e)
+-- the queue is passed
+pub end-turn
+    : (up : Bool) (last : ℕ) (st : List ℕ) (va : List ℤ) (row queue : List ℕ) (waiting : ℕ) (oks others : List Bool) (me n : ℕ) (rs : List Request) (i : ℕ) {w : ℕ} {r : code.Settled} {a : Settled}
+    → answerOf (walked me n rs (siteOf up last st va (notesFrom row queue waiting) oks others) i) ≡ a → w ≤ i → w ≡ waiting
+    → r ≡ record { waiting = waiting; accepted = 0; rejected = 0 } → left up last r st va row queue oks others ≡ a
+unfolding accepts rejects
+end-turn up last st va row queue waiting oks others me n rs i e h hw hr =
+    rw hr (ap answerOf (sym (walk-ends me n rs (siteOf up last st va (notesFrom row queue waiting) oks others) i (rw hw at h))) ∙ e)
+
+-- the same, where the notes are kept in rows: one out of the queue, and the others marked
+pub voted-rows
+    : (up : Bool) (last : ℕ) (st : List ℕ) (va : List ℤ) (row queue : List ℕ) (waiting : ℕ) (oks others : List Bool) (me i p : ℕ) (m : Mark) (a : List ℕ) {b : List ℕ} {w : ℕ} {o t : List Bool}
+    → (w ≡ waiting - 1) × (b ≡ queueLeft queue waiting i) → votesFrom a ≡ markPut (votesFrom row) p m → o ≡ oksVoted me oks p m → t ≡ othersVoted me others p m
+    → siteOf up last st va (notesFrom a b w) o t ≡ votedFromQueue me (siteOf up last st va (notesFrom row queue waiting) oks others) i p m
+voted-rows up last st va row queue waiting oks others me i p m a {b} {w} hl hm ho ht =
+    voted-parts up last st va (notesFrom row queue waiting) oks others me i p m (notes-left row queue waiting i (hl .0) (hl .1)) (said-marked row a b w p m hm) ho ht
 
 -- ---- how many wait after a vote, and after a verdict
 
 module _ (k : Notes) where
-  pub voted-fewer : (i p : ℕ) (m : Mark) {l u : Notes} → l ≡ notesLeft k i → u ≡ notesMarked l p m → u .waiting ≡ k .waiting - 1
-  voted-fewer i p m hl hu =
-      ap (λ (s : Site). s .waiting) (voted-parts true 0 [] [] k [] [] 0 i p m hl hu refl refl) ∙ fewer-voted 0 (siteOf true 0 [] [] k [] []) i p m
-
   pub ruled-fewer : (p : ℕ) (d : Verdict) {u : Notes} → u ≡ notesRuled k p d → u .waiting ≤ k .waiting
   ruled-fewer p d {u} hu =
       let e : u .waiting ≡ ruled (siteOf true 0 [] [] k [] []) noRequest p d .waiting =
@@ -150,23 +158,23 @@ count-turn me n heads based news s p v q row u few hq hw hu hr ha hb =
     rw (ha, hb, hr, e)
 
 -- with the site in its parts: the code's answer r, and what it left of what is lent
-module _ {r : code.Settled} {ts : List ℕ} {vs : List ℤ} {os xs : List Bool} where
+module _ {r : code.Settled} {ts : List ℕ} {vs : List ℤ} (row : List ℕ) {queue : List ℕ} {os xs : List Bool} where
   pub count-parts
-      : (up : Bool) (last me n : ℕ) (heads : List Head) (based : List ℕ) (news : List ℤ) (k : Notes) (st : List ℕ) (va : List ℤ) (oks others : List Bool) (p : ℕ) (v : Verdict) (q : Head) (row : List ℤ)
+      : (up : Bool) (last me n : ℕ) (heads : List Head) (based : List ℕ) (news : List ℤ) (k : Notes) (st : List ℕ) (va : List ℤ) (oks others : List Bool) (p : ℕ) (v : Verdict) (q : Head) (new : List ℤ)
       {u : Notes} {su : List ℕ} {vu : List ℤ} {a b : ℕ}
-      → length heads ≡ 16 → q ≡ headAt heads p → row ≡ rowAt (pos 0) news p → u ≡ notesRuled k p v → su ≡ stampsRuled v st (requestOf q [] row)
-      → vu ≡ valuesRuled v st (requestOf q [] row) va
-      → left up last r ts vs os xs ≡ answerOf (walked me n (requestsFrom heads based news) (siteOf up last su vu u oks others) 0)
+      → length heads ≡ 16 → q ≡ headAt heads p → new ≡ rowAt (pos 0) news p → u ≡ notesRuled k p v → su ≡ stampsRuled v st (requestOf q [] new)
+      → vu ≡ valuesRuled v st (requestOf q [] new) va
+      → left up last r ts vs row queue os xs ≡ answerOf (walked me n (requestsFrom heads based news) (siteOf up last su vu u oks others) 0)
       → a ≡ r .accepted + acceptsOf v → b ≡ r .rejected + rejectsOf v
-      → left up last (record { notes = r .notes; accepted = a; rejected = b }) ts vs os xs
+      → left up last (record { waiting = r .waiting; accepted = a; rejected = b }) ts vs row queue os xs
       ≡ answerOf (resolved me n (requestsFrom heads based news) (siteOf up last st va k oks others) p v)
-  count-parts up last me n heads based news k st va oks others p v q row few hq hw hu hs hv hr ha hb =
-      count-turn me n heads based news (siteOf up last st va k oks others) p v q row _ few hq hw (ruled-parts up last st va k oks others (requestOf q [] row) p v hu hs hv) hr ha hb
+  count-parts up last me n heads based news k st va oks others p v q new few hq hw hu hs hv hr ha hb =
+      count-turn me n heads based news (siteOf up last st va k oks others) p v q new _ few hq hw (ruled-parts up last st va k oks others (requestOf q [] new) p v hu hs hv) hr ha hb
 
   -- it has no more verdicts than requests that waited
   pub few-answers
       : (me n : ℕ) (rs : List Request) (k : Notes) (st : List ℕ) (va : List ℤ) (oks others : List Bool)
-      → ((up : Bool) (last : ℕ) → left up last r ts vs os xs ≡ answerOf (walked me n rs (siteOf up last st va k oks others) 0)) → r .accepted + r .rejected ≤ k .waiting
+      → ((up : Bool) (last : ℕ) → left up last r ts vs row queue os xs ≡ answerOf (walked me n rs (siteOf up last st va k oks others) 0)) → r .accepted + r .rejected ≤ k .waiting
   few-answers me n rs k st va oks others hr = rw (ap (λ (x : Settled). x .accepted) (hr true 0), ap (λ (x : Settled). x .rejected) (hr true 0)) (few-verdicts me n rs (siteOf true 0 st va k oks others) 0)
 
 -- one verdict is one acceptance at most, and one rejection

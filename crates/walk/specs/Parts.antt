@@ -47,3 +47,13 @@ basedOf rs = rowsUpTo 0 (λ z. requestAt rs z .stamps) 16
 
 unfoldable pub newsOf : List Request → List ℤ
 newsOf rs = rowsUpTo (pos 0) (λ z. requestAt rs z .values) 16
+
+-- the stamps of these requests, their base sets and their update sets
+unfoldable pub namesOf : List Request → List ℕ
+namesOf rs = listed 16 (λ p. requestAt rs p .stamp)
+
+unfoldable pub basesOf : List Request → List ℕ
+basesOf rs = listed 16 (λ p. requestAt rs p .base)
+
+unfoldable pub updatesOf : List Request → List ℕ
+updatesOf rs = listed 16 (λ p. requestAt rs p .update)

@@ -5,6 +5,7 @@ use mathlib.Core.Bool.{Bool, true, false}
 use mathlib.Core.List.{List, [], _∷_}
 use lib.IntN.{ℤ}
 use Rattle.vote.specs.Notes.{siteOf}
+use Rattle.vote.specs.Numbers.{notesFrom}
 use Rattle.vote.specs.Consider.{considered, markOf, defers}
 use Rattle.vote.specs.Data.{headsOf, isOpen, requestIn}
 use Rattle.vote.specs.Queue.{queuedAt}
@@ -127,6 +128,7 @@ pub record Settled : Type 0 where
 abbrev pub answerOf : Out → Settled
 answerOf o = record { site = o .site; accepted = accepts (o .log); rejected = rejects (o .log) }
 
--- those that the code leaves: the site put together of its notes and of what is lent
-abbrev pub left : Bool → ℕ → code.Settled → List ℕ → List ℤ → List Bool → List Bool → Settled
-left up last r stamps values oks others = record { site = siteOf up last stamps values (r .notes) oks others; accepted = r .accepted; rejected = r .rejected }
+-- those that the code leaves: the site put together of what is lent
+abbrev pub left : Bool → ℕ → code.Settled → List ℕ → List ℤ → List ℕ → List ℕ → List Bool → List Bool → Settled
+left up last r stamps values votes queue oks others =
+    record { site = siteOf up last stamps values (notesFrom votes queue (r .waiting)) oks others; accepted = r .accepted; rejected = r .rejected }

@@ -1,8 +1,10 @@
 // What a site does with a request that it begins or hears of. The site comes in its parts, as in walking.rt.
-ghost use mathlib.Core.Bool.{Bool, cond};
+ghost use mathlib.Core.Bool.{Bool};
 ghost use mathlib.Core.Path.{_≡_};
 ghost use Prim.Native.Nat.{ℕ};
+ghost use Rattle.vote.specs.Data.{headsFrom};
 ghost use Rattle.vote.specs.Notes.{siteOf};
+ghost use Rattle.vote.specs.Numbers.{notesFrom};
 ghost use Rattle.walk.specs.Hearing.{takenUp, received};
 ghost use Rattle.walk.specs.Walking.{answerOf, left};
 ghost use Rattle.walk.specs.Parts.{requestsFrom};
@@ -16,21 +18,23 @@ use vote::consider::is_deferral;
 use vote::consider::is_open;
 use vote::consider::is_unmarked;
 use vote::consider::mark_of;
-use vote::data::Head;
-use vote::data::Notes;
 use vote::data::Verdict;
+use vote::numbers::said_at;
 use vote::verdicts::verdict_due;
 use vote::voters::join_voters;
 use vote::voting::cast_vote;
 use vote::voting::defer;
-use vote::voting::vote_at;
 
 // Site `me` of n considers the request at place p: it is deferred, or voted on, which counts at once and may bring a verdict.
-fn take_up<'a>(
-    heads: [Head; 16],
+pub fn take_up<'a>(
+    names: &'a [u64; 16],
+    bases: &'a [u32; 16],
+    updates: &'a [u32; 16],
     based: &'a [u64; 384],
     news: &'a [i32; 384],
-    notes: Notes,
+    votes: &mut [u8; 16],
+    queue: &mut [u8; 16],
+    waiting: u8,
     stamps: &mut [u64; 24],
     values: &mut [i32; 24],
     oks: &mut [bool; 112],
@@ -39,25 +43,29 @@ fn take_up<'a>(
     me: u8,
     p: u8,
 ) -> Settled
-    ensures { λ r. ⌜ ((up : Bool) (last : ℕ) → left up last r (now (stamps .exit)) (now (values .exit)) (now (oks .exit)) (now (others .exit))
-        ≡ answerOf (takenUp me n (requestsFrom heads (now (based .entry)) (now (news .entry))) (siteOf up last (now (stamps .entry)) (now (values .entry)) notes (now (oks .entry)) (now (others .entry))) p)) ⌝ }
+    ensures { λ r. ⌜ ((up : Bool) (last : ℕ) → left up last r (now (stamps .exit)) (now (values .exit)) (now (votes .exit)) (now (queue .exit)) (now (oks .exit)) (now (others .exit))
+        ≡ answerOf (takenUp me n (requestsFrom (headsFrom (now (names .entry)) (now (bases .entry)) (now (updates .entry))) (now (based .entry)) (now (news .entry))) (siteOf up last (now (stamps .entry)) (now (values .entry)) (notesFrom (now (votes .entry)) (now (queue .entry)) waiting) (now (oks .entry)) (now (others .entry))) p)) ⌝ }
 {
-    let votes = notes.votes;
     let row = stamps_at(based, p);
-    let o = consider(heads, votes, stamps, head_at(heads, p), &row);
+    let q = head_at(names, bases, updates, p);
+    let o = consider(names, bases, updates, votes, stamps, q, &row);
     if is_deferral(o) {
-        return rest(defer(notes, p));
+        return rest(defer(votes, queue, waiting, p));
     }
-    let voted = cast_vote(notes, oks, others, me, p, mark_of(o));
+    cast_vote(votes, oks, others, me, p, mark_of(o));
     let v = verdict_due(oks, others, n, p);
     if is_open(v) {
-        return rest(voted);
+        return rest(waiting);
     }
     resolve(
-        heads,
+        names,
+        bases,
+        updates,
         based,
         news,
-        voted,
+        votes,
+        queue,
+        waiting,
         stamps,
         values,
         oks,
@@ -71,11 +79,15 @@ fn take_up<'a>(
 
 // A message of the request at place p comes to site `me` of n: a verdict held there already keeps all as it is, one that is sent is taken
 // over; else the voters are joined, and a request not marked yet is considered.
-fn receive<'a>(
-    heads: [Head; 16],
+pub fn receive<'a>(
+    names: &'a [u64; 16],
+    bases: &'a [u32; 16],
+    updates: &'a [u32; 16],
     based: &'a [u64; 384],
     news: &'a [i32; 384],
-    notes: Notes,
+    votes: &mut [u8; 16],
+    queue: &mut [u8; 16],
+    waiting: u8,
     stamps: &mut [u64; 24],
     values: &mut [i32; 24],
     oks: &mut [bool; 112],
@@ -84,24 +96,27 @@ fn receive<'a>(
     me: u8,
     p: u8,
     sent: Verdict,
-    more_oks: [bool; 7],
-    more_others: [bool; 7],
+    more_oks: &'a [bool; 7],
+    more_others: &'a [bool; 7],
 ) -> Settled
-    ensures { λ r. ⌜ ((up : Bool) (last : ℕ) → left up last r (now (stamps .exit)) (now (values .exit)) (now (oks .exit)) (now (others .exit))
-        ≡ answerOf (received me n (requestsFrom heads (now (based .entry)) (now (news .entry))) (siteOf up last (now (stamps .entry)) (now (values .entry)) notes (now (oks .entry)) (now (others .entry))) p sent «more_oks» «more_others»)) ⌝ }
+    ensures { λ r. ⌜ ((up : Bool) (last : ℕ) → left up last r (now (stamps .exit)) (now (values .exit)) (now (votes .exit)) (now (queue .exit)) (now (oks .exit)) (now (others .exit))
+        ≡ answerOf (received me n (requestsFrom (headsFrom (now (names .entry)) (now (bases .entry)) (now (updates .entry))) (now (based .entry)) (now (news .entry))) (siteOf up last (now (stamps .entry)) (now (values .entry)) (notesFrom (now (votes .entry)) (now (queue .entry)) waiting) (now (oks .entry)) (now (others .entry))) p sent (now («more_oks» .entry)) (now («more_others» .entry)))) ⌝ }
 {
-    let votes = notes.votes;
-    let old = vote_at(votes, p);
+    let old = said_at(votes, p);
     let held = old.verdict;
     if !is_open(held) {
-        return rest(notes);
+        return rest(waiting);
     }
     if !is_open(sent) {
         return resolve(
-            heads,
+            names,
+            bases,
+            updates,
             based,
             news,
-            notes,
+            votes,
+            queue,
+            waiting,
             stamps,
             values,
             oks,
@@ -117,10 +132,14 @@ fn receive<'a>(
     let v = verdict_due(oks, others, n, p);
     if !is_open(v) {
         return resolve(
-            heads,
+            names,
+            bases,
+            updates,
             based,
             news,
-            notes,
+            votes,
+            queue,
+            waiting,
             stamps,
             values,
             oks,
@@ -133,13 +152,17 @@ fn receive<'a>(
     }
     let mark = old.mark;
     if !is_unmarked(mark) {
-        return rest(notes);
+        return rest(waiting);
     }
     take_up(
-        heads,
+        names,
+        bases,
+        updates,
         based,
         news,
-        notes,
+        votes,
+        queue,
+        waiting,
         stamps,
         values,
         oks,
@@ -147,60 +170,5 @@ fn receive<'a>(
         n,
         me,
         p,
-    )
-}
-
-// Site `me` of n attends to the request at place p: one that it has begun, or one that it hears of by a message with these words.
-pub fn attend<'a>(
-    begun: bool,
-    heads: [Head; 16],
-    based: &'a [u64; 384],
-    news: &'a [i32; 384],
-    notes: Notes,
-    stamps: &mut [u64; 24],
-    values: &mut [i32; 24],
-    oks: &mut [bool; 112],
-    others: &mut [bool; 112],
-    n: u8,
-    me: u8,
-    p: u8,
-    sent: Verdict,
-    more_oks: [bool; 7],
-    more_others: [bool; 7],
-) -> Settled
-    ensures { λ r. ⌜ ((up : Bool) (last : ℕ) → left up last r (now (stamps .exit)) (now (values .exit)) (now (oks .exit)) (now (others .exit))
-        ≡ answerOf (cond begun (takenUp me n (requestsFrom heads (now (based .entry)) (now (news .entry))) (siteOf up last (now (stamps .entry)) (now (values .entry)) notes (now (oks .entry)) (now (others .entry))) p)
-        (received me n (requestsFrom heads (now (based .entry)) (now (news .entry))) (siteOf up last (now (stamps .entry)) (now (values .entry)) notes (now (oks .entry)) (now (others .entry))) p sent «more_oks» «more_others»))) ⌝ }
-{
-    if begun {
-        return take_up(
-            heads,
-            based,
-            news,
-            notes,
-            stamps,
-            values,
-            oks,
-            others,
-            n,
-            me,
-            p,
-        );
-    }
-    receive(
-        heads,
-        based,
-        news,
-        notes,
-        stamps,
-        values,
-        oks,
-        others,
-        n,
-        me,
-        p,
-        sent,
-        more_oks,
-        more_others,
     )
 }

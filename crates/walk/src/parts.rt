@@ -1,27 +1,26 @@
-// Requests taken apart, to be lent: their heads; and their base stamps, and their new values, item i of place p at 24 × p + i.
+// Requests taken apart, to be lent: their stamps, their base sets and their update sets; and their base stamps, and their new values, item i
+// of place p at 24 × p + i.
 ghost use mathlib.Core.Path.{_≡_};
 ghost use mathlib.Core.Bool.{cond};
 ghost use Prim.Native.Nat.{_<_};
 ghost use lib.IntN.{pos};
-ghost use Rattle.vote.specs.Data.{headAt, headsOf, requestOf};
-ghost use Rattle.walk.specs.Parts.{rowAt, withRow, storedRow, requestsFrom, basedOf, newsOf};
+ghost use Rattle.vote.specs.Data.{headAt, headsFrom, requestOf};
+ghost use Rattle.walk.specs.Parts.{rowAt, withRow, storedRow, requestsFrom, basedOf, newsOf, namesOf, basesOf, updatesOf};
 use vote::data::Head;
 use vote::data::Request;
 use vote::requests::blank_request;
+use vote::requests::head_from;
 
 // The head of the request at place p; an empty one of a place above 15.
-pub(crate) fn head_at(heads: [Head; 16], p: u8) -> Head
-    ensures { λ r. ⌜ r ≡ headAt heads p ⌝ }
+pub(crate) fn head_at<'a>(
+    names: &'a [u64; 16],
+    bases: &'a [u32; 16],
+    updates: &'a [u32; 16],
+    p: u8,
+) -> Head
+    ensures { λ r. ⌜ r ≡ headAt (headsFrom (now (names .entry)) (now (bases .entry)) (now (updates .entry))) p ⌝ }
 {
-    let at = kit::index(p);
-    if 15 < at {
-        return Head {
-            stamp: 0,
-            base: 0,
-            update: 0,
-        };
-    }
-    heads[at]
+    head_from(names, bases, updates, kit::index(p))
 }
 
 // Its base stamps, copied out; 0 of a place above 15.
@@ -110,10 +109,43 @@ fn put_values<'a, 'b>(news: &'a mut [i32; 384], p: usize, row: &'b [i32; 24])
     }
 }
 
-// The base stamps of all requests. Put together again with their heads and new values, they are the requests.
+// The stamps of all requests.
+pub fn names_of(rs: [Request; 16]) -> [u64; 16]
+    ensures { λ r. ⌜ r ≡ namesOf rs ⌝ }
+{
+    let mut names = [0u64; 16];
+    for z in 0..16 {
+        names[z] = rs[z].stamp;
+    }
+    names
+}
+
+// Their base sets.
+pub fn bases_of(rs: [Request; 16]) -> [u32; 16]
+    ensures { λ r. ⌜ r ≡ basesOf rs ⌝ }
+{
+    let mut bases = [0u32; 16];
+    for z in 0..16 {
+        bases[z] = rs[z].base;
+    }
+    bases
+}
+
+// Their update sets.
+pub fn updates_of(rs: [Request; 16]) -> [u32; 16]
+    ensures { λ r. ⌜ r ≡ updatesOf rs ⌝ }
+{
+    let mut updates = [0u32; 16];
+    for z in 0..16 {
+        updates[z] = rs[z].update;
+    }
+    updates
+}
+
+// The base stamps of all requests. Put together again with their other parts, they are the requests.
 pub fn based_of(rs: [Request; 16]) -> [u64; 384]
     ensures rows { λ r. ⌜ r ≡ basedOf rs ⌝ }
-    ensures all { λ r. ⌜ requestsFrom (headsOf rs) r (newsOf rs) ≡ rs ⌝ }
+    ensures all { λ r. ⌜ requestsFrom (headsFrom (namesOf rs) (basesOf rs) (updatesOf rs)) r (newsOf rs) ≡ rs ⌝ }
 {
     let mut based = [0u64; 384];
     for z in 0..16 {
@@ -137,14 +169,16 @@ pub fn news_of(rs: [Request; 16]) -> [i32; 384]
 
 // The request at place p, put together again.
 fn request_from<'a>(
-    heads: [Head; 16],
+    names: &'a [u64; 16],
+    bases: &'a [u32; 16],
+    updates: &'a [u32; 16],
     based: &'a [u64; 384],
     news: &'a [i32; 384],
     p: u8,
 ) -> Request
-    ensures { λ r. ⌜ r ≡ requestOf (headAt heads p) (rowAt 0 (now (based .entry)) p) (rowAt (pos 0) (now (news .entry)) p) ⌝ }
+    ensures { λ r. ⌜ r ≡ requestOf (headAt (headsFrom (now (names .entry)) (now (bases .entry)) (now (updates .entry))) p) (rowAt 0 (now (based .entry)) p) (rowAt (pos 0) (now (news .entry)) p) ⌝ }
 {
-    let h = head_at(heads, p);
+    let h = head_at(names, bases, updates, p);
     let stamps = stamps_at(based, p);
     let values = values_at(news, p);
     Request {
@@ -158,18 +192,20 @@ fn request_from<'a>(
 
 // All of them.
 pub fn requests_from<'a>(
-    heads: [Head; 16],
+    names: &'a [u64; 16],
+    bases: &'a [u32; 16],
+    updates: &'a [u32; 16],
     based: &'a [u64; 384],
     news: &'a [i32; 384],
 ) -> [Request; 16]
-    ensures { λ r. ⌜ r ≡ requestsFrom heads (now (based .entry)) (now (news .entry)) ⌝ }
+    ensures { λ r. ⌜ r ≡ requestsFrom (headsFrom (now (names .entry)) (now (bases .entry)) (now (updates .entry))) (now (based .entry)) (now (news .entry)) ⌝ }
 {
     let blank = blank_request();
     let mut rs = [blank; 16];
     let mut p: u8 = 0;
     while p < 16 {
         let at = kit::index(p);
-        let q = request_from(heads, based, news, p);
+        let q = request_from(names, bases, updates, based, news, p);
         rs[at] = q;
         p += 1;
     }

@@ -1,9 +1,11 @@
-// "A verdict calls for a walk and a walk may bring a verdict": resolving and queue walking call each other. A site comes in its parts: its notes
-// by value, its copy and the voters that it knows lent, where they are changed. The requests come taken apart, and lent.
+// "A verdict calls for a walk and a walk may bring a verdict": resolving and queue walking call each other. A site comes in its parts, and lent,
+// where they are changed: what it has said of each request place, its queue, its copy, the voters that it knows. The requests come taken apart, and lent.
 ghost use mathlib.Core.Bool.{Bool};
 ghost use mathlib.Core.Path.{_≡_};
 ghost use Prim.Native.Nat.{ℕ};
+ghost use Rattle.vote.specs.Data.{headsFrom};
 ghost use Rattle.vote.specs.Notes.{siteOf};
+ghost use Rattle.vote.specs.Numbers.{notesFrom};
 ghost use Rattle.walk.specs.Walking.{walked, resolved, acceptsOf, rejectsOf, answerOf, left};
 ghost use Rattle.walk.specs.Parts.{requestsFrom};
 use crate::parts::head_at;
@@ -13,8 +15,6 @@ use vote::consider::consider;
 use vote::consider::is_deferral;
 use vote::consider::is_open;
 use vote::consider::mark_of;
-use vote::data::Head;
-use vote::data::Notes;
 use vote::data::Verdict;
 use vote::queue::leave_queue;
 use vote::queue::queued_at;
@@ -23,9 +23,9 @@ use vote::verdicts::verdict_due;
 use vote::verdicts::write_ruled;
 use vote::voting::cast_vote;
 
-// A site's notes after a walk, and how many requests it accepted and rejected.
+// How many wait at a site after a walk, and how many requests it accepted and rejected.
 pub struct Settled {
-    pub notes: Notes,
+    pub waiting: u8,
     pub accepted: u32,
     pub rejected: u32,
 }
@@ -52,11 +52,11 @@ pub fn one_if_rejected(v: Verdict) -> u32
 }
 
 // Nothing more is accepted or rejected.
-pub(crate) fn rest(notes: Notes) -> Settled
-    ensures { λ r. ⌜ r ≡ record { notes = notes; accepted = 0; rejected = 0 } ⌝ }
+pub(crate) fn rest(waiting: u8) -> Settled
+    ensures { λ r. ⌜ r ≡ record { waiting = waiting; accepted = 0; rejected = 0 } ⌝ }
 {
     Settled {
-        notes,
+        waiting,
         accepted: 0,
         rejected: 0,
     }
@@ -65,10 +65,14 @@ pub(crate) fn rest(notes: Notes) -> Settled
 // Site `me` of n considers its queue again from the front. One that votes leaves the queue, one still deferred keeps its place; a vote
 // that brings a verdict calls `resolve`, which walks again from the front.
 fn walk<'a>(
-    heads: [Head; 16],
+    names: &'a [u64; 16],
+    bases: &'a [u32; 16],
+    updates: &'a [u32; 16],
     based: &'a [u64; 384],
     news: &'a [i32; 384],
-    mut notes: Notes,
+    votes: &mut [u8; 16],
+    queue: &mut [u8; 16],
+    mut waiting: u8,
     stamps: &mut [u64; 24],
     values: &mut [i32; 24],
     oks: &mut [bool; 112],
@@ -76,27 +80,31 @@ fn walk<'a>(
     n: u8,
     me: u8,
 ) -> Settled
-    ensures { λ r. ⌜ ((up : Bool) (last : ℕ) → left up last r (now (stamps .exit)) (now (values .exit)) (now (oks .exit)) (now (others .exit))
-        ≡ answerOf (walked me n (requestsFrom heads (now (based .entry)) (now (news .entry))) (siteOf up last (now (stamps .entry)) (now (values .entry)) notes (now (oks .entry)) (now (others .entry))) 0)) ⌝ }
+    ensures { λ r. ⌜ ((up : Bool) (last : ℕ) → left up last r (now (stamps .exit)) (now (values .exit)) (now (votes .exit)) (now (queue .exit)) (now (oks .exit)) (now (others .exit))
+        ≡ answerOf (walked me n (requestsFrom (headsFrom (now (names .entry)) (now (bases .entry)) (now (updates .entry))) (now (based .entry)) (now (news .entry))) (siteOf up last (now (stamps .entry)) (now (values .entry)) (notesFrom (now (votes .entry)) (now (queue .entry)) waiting) (now (oks .entry)) (now (others .entry))) 0)) ⌝ }
 {
     let mut i: usize = 0;
-    while i < kit::index(notes.waiting) {
-        let queue = notes.queue;
+    while i < kit::index(waiting) {
         let p = queued_at(queue, i);
-        let votes = notes.votes;
         let row = stamps_at(based, p);
-        let o = consider(heads, votes, stamps, head_at(heads, p), &row);
+        let q = head_at(names, bases, updates, p);
+        let o = consider(names, bases, updates, votes, stamps, q, &row);
         if is_deferral(o) {
             i += 1;
         } else {
-            notes = cast_vote(leave_queue(notes, i), oks, others, me, p, mark_of(o));
+            waiting = leave_queue(queue, waiting, i);
+            cast_vote(votes, oks, others, me, p, mark_of(o));
             let v = verdict_due(oks, others, n, p);
             if !is_open(v) {
                 return resolve(
-                    heads,
+                    names,
+                    bases,
+                    updates,
                     based,
                     news,
-                    notes,
+                    votes,
+                    queue,
+                    waiting,
                     stamps,
                     values,
                     oks,
@@ -109,15 +117,19 @@ fn walk<'a>(
             }
         }
     }
-    rest(notes)
+    rest(waiting)
 }
 
 // The request at place p gets the verdict v at site `me` of n, and the queue is considered again from the front.
 pub fn resolve<'a>(
-    heads: [Head; 16],
+    names: &'a [u64; 16],
+    bases: &'a [u32; 16],
+    updates: &'a [u32; 16],
     based: &'a [u64; 384],
     news: &'a [i32; 384],
-    notes: Notes,
+    votes: &mut [u8; 16],
+    queue: &mut [u8; 16],
+    waiting: u8,
     stamps: &mut [u64; 24],
     values: &mut [i32; 24],
     oks: &mut [bool; 112],
@@ -127,17 +139,22 @@ pub fn resolve<'a>(
     p: u8,
     v: Verdict,
 ) -> Settled
-    ensures { λ r. ⌜ ((up : Bool) (last : ℕ) → left up last r (now (stamps .exit)) (now (values .exit)) (now (oks .exit)) (now (others .exit))
-        ≡ answerOf (resolved me n (requestsFrom heads (now (based .entry)) (now (news .entry))) (siteOf up last (now (stamps .entry)) (now (values .entry)) notes (now (oks .entry)) (now (others .entry))) p v)) ⌝ }
+    ensures { λ r. ⌜ ((up : Bool) (last : ℕ) → left up last r (now (stamps .exit)) (now (values .exit)) (now (votes .exit)) (now (queue .exit)) (now (oks .exit)) (now (others .exit))
+        ≡ answerOf (resolved me n (requestsFrom (headsFrom (now (names .entry)) (now (bases .entry)) (now (updates .entry))) (now (based .entry)) (now (news .entry))) (siteOf up last (now (stamps .entry)) (now (values .entry)) (notesFrom (now (votes .entry)) (now (queue .entry)) waiting) (now (oks .entry)) (now (others .entry))) p v)) ⌝ }
 {
     let row = values_at(news, p);
-    let ruled = rule(notes, p, v);
-    write_ruled(v, stamps, values, head_at(heads, p), &row);
+    let fewer = rule(votes, queue, waiting, p, v);
+    let q = head_at(names, bases, updates, p);
+    write_ruled(v, stamps, values, q, &row);
     let later = walk(
-        heads,
+        names,
+        bases,
+        updates,
         based,
         news,
-        ruled,
+        votes,
+        queue,
+        fewer,
         stamps,
         values,
         oks,
@@ -145,9 +162,8 @@ pub fn resolve<'a>(
         n,
         me,
     );
-    let last = later.notes;
     Settled {
-        notes: last,
+        waiting: later.waiting,
         accepted: later.accepted + one_if_accepted(v),
         rejected: later.rejected + one_if_rejected(v),
     }

@@ -5,7 +5,7 @@ use Rattle.record.proofs.read_record.Statement.{statement}
 use Rattle.record.proofs.read_record.Tie as tie
 
 returns : tie.Need-returns
-returns c = whole-is _ (c .before .before .read-brief .ensures) (c .before .read-stamps .ensures) (c .read-values .ensures)
+returns c = whole-is _ (c .before .before .before .read-brief .ensures) (c .read-numbers .ensures .0) (c .read-numbers .ensures .1)
 
 pub read-record-spec : {M : Type 1} → statement M
-read-record-spec = tie.close (tie.spec (λ c κs. search needs) (λ c κs. search needs) (λ c κs. search needs) returns)
+read-record-spec = tie.close (tie.spec (λ c κs. search needs) (λ c κs. search needs) returns)

@@ -1,6 +1,5 @@
 -- `plans::opened::sites_from` meets its contract: each place is put.
 use Prim.Native.Nat.{_-_}
-use Rattle.kit.proofs.Listings.{length-mapped}
 use Rattle.kit.proofs.Turns.{Laid, laid-none, laid-more, laid-all}
 use Rattle.plans.specs.Opened.{siteFrom, sitesFrom}
 use Rattle.table.specs.Places.{noSite}
@@ -11,10 +10,10 @@ use Rattle.plans.proofs.opened.sites_from.Statement.{statement}
 use Rattle.plans.proofs.opened.sites_from.Tie as tie
 
 abbrev Inv-loop : tie.InvT-loop
-Inv-loop sites stamps values notes oks others all₀ k₀ all k = Laid 7 (siteFrom sites stamps values notes oks others) noSite all₀ k all
+Inv-loop ups lasts stamps values votes queues waitings oks others all₀ k₀ all k = Laid 7 (siteFrom ups lasts stamps values votes queues waitings oks others) noSite all₀ k all
 
 abbrev μ-loop : tie.MeasureT-loop
-μ-loop sites stamps values notes oks others all₀ k₀ all k = 7 - k
+μ-loop ups lasts stamps values votes queues waitings oks others all₀ k₀ all k = 7 - k
 
 pub sites-from-spec : {M : Type 1} → statement M
 unfolding sitesFrom
@@ -23,7 +22,8 @@ sites-from-spec =
     (tie.spec
     Inv-loop
     μ-loop
-    (λ c. laid-none 7 _ noSite _ (search (needs, length-mapped)))
+    (λ c κs. search needs)
+    (λ c. laid-none 7 _ noSite _ refl)
     (λ c. search needs)
     (λ c. search needs)
     (λ c. search needs)
@@ -40,7 +40,10 @@ sites-from-spec =
     (λ c. search needs)
     (λ c. search needs)
     (λ c. search needs)
+    (λ c κs. search needs)
     (λ c. search needs)
     (λ c. search needs)
-    (λ c. laid-more 7 _ noSite _ (c .before .before .before .before .before .before .before .before .loop .inv) (omega arith) refl)
-    (λ c. laid-all 7 _ noSite _ (c .before .loop .inv) (omega arith)))
+    (λ c. search needs)
+    (λ c. search needs)
+    (λ c. search (laid-more, arith))
+    (λ c. search (laid-all, arith)))

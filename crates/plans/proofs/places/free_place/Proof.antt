@@ -2,7 +2,7 @@
 use Prim.Native.Nat.{_-_}
 use Rattle.kit.proofs.Loops.{Missed, firsts}
 use Rattle.plans.proofs.Found.{free-is}
-use Rattle.vote.specs.Data.{headAt}
+use lib.ListN.{getD}
 use borrow.Author.Needs.{needs}
 use lib.Dec.{eqb}
 use mathlib.Core.Bool.{not}
@@ -10,10 +10,10 @@ use Rattle.plans.proofs.places.free_place.Statement.{statement}
 use Rattle.plans.proofs.places.free_place.Tie as tie
 
 abbrev Inv-loop : tie.InvT-loop
-Inv-loop heads p₀ p = Missed 16 (λ k. not (not (eqb (headAt heads k .stamp) 0))) p
+Inv-loop names p₀ p = Missed 16 (λ k. not (not (eqb (getD names k 0) 0))) p
 
 abbrev μ-loop : tie.MeasureT-loop
-μ-loop heads p₀ p = 16 - p
+μ-loop names p₀ p = 16 - p
 
 pub free-place-spec : {M : Type 1} → statement M
 free-place-spec =

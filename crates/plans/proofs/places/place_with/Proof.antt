@@ -2,17 +2,17 @@
 use Prim.Native.Nat.{_-_}
 use Rattle.kit.proofs.Loops.{Missed, firsts}
 use Rattle.plans.proofs.Found.{place-zero, place-is}
-use Rattle.vote.specs.Data.{headAt}
+use lib.ListN.{getD}
 use borrow.Author.Needs.{needs}
 use lib.Dec.{eqb}
 use Rattle.plans.proofs.places.place_with.Statement.{statement}
 use Rattle.plans.proofs.places.place_with.Tie as tie
 
 abbrev Inv-loop : tie.InvT-loop
-Inv-loop stamp heads p₀ p = Missed 16 (λ k. eqb (headAt heads k .stamp) stamp) p
+Inv-loop names stamp p₀ p = Missed 16 (λ k. eqb (getD names k 0) stamp) p
 
 abbrev μ-loop : tie.MeasureT-loop
-μ-loop stamp heads p₀ p = 16 - p
+μ-loop names stamp p₀ p = 16 - p
 
 pub place-with-spec : {M : Type 1} → statement M
 place-with-spec =

@@ -1,19 +1,20 @@
 -- `plans::retire::is_named` meets its contract: a loop that returns at the first hit computes `any`.
 use Prim.Native.Nat.{_-_}
 use Rattle.kit.proofs.Loops.{Missed, somes}
-use Rattle.table.specs.Places.{noMessage}
+use Rattle.plans.specs.Letters.{isLetter}
 use lib.Dec.{eqb}
 use lib.ListN.{getD}
 use mathlib.Core.Bool.{_&&_}
+use mathlib.Core.List.{[]}
 use borrow.Author.Needs.{needs}
 use Rattle.plans.proofs.retire.is_named.Statement.{statement}
 use Rattle.plans.proofs.retire.is_named.Tie as tie
 
 abbrev Inv-loop : tie.InvT-loop
-Inv-loop p messages j₀ j = Missed 64 (λ k. getD messages k noMessage .used && eqb (getD messages k noMessage .request) p) j
+Inv-loop letters p j₀ j = Missed 64 (λ k. isLetter (getD letters k []) && eqb (getD (getD letters k []) 1 0) p) j
 
 abbrev μ-loop : tie.MeasureT-loop
-μ-loop p messages j₀ j = 64 - j
+μ-loop letters p j₀ j = 64 - j
 
 pub is-named-spec : {M : Type 1} → statement M
 is-named-spec =

@@ -1,5 +1,6 @@
 -- `plans::retire::is_naming` meets its contract.
 use Rattle.plans.proofs.Retiring.{named-unused, named-used}
+use borrow.Author.Needs.{needs}
 use Rattle.plans.proofs.retire.is_naming.Statement.{statement}
 use Rattle.plans.proofs.retire.is_naming.Tie as tie
 
@@ -7,5 +8,7 @@ pub is-naming-spec : {M : Type 1} → statement M
 is-naming-spec =
     tie.close
     (tie.spec
+    (λ c. search needs)
     (λ c. search named-unused)
+    (λ c. search needs)
     (λ c. search named-used))

@@ -1,7 +1,7 @@
 -- `vote::consider::pending_in` meets its contract: after j turns it is the set of the pending below place j.
 use mathlib.Core.Bool.{Bool}
 use mathlib.Core.List.{List}
-use mathlib.Core.Path.{_≡_, refl, ap, _∙_}
+use mathlib.Core.Path.{_≡_, refl, sym, ap, _∙_}
 use Prim.Native.Nat.{ℕ, _-_, _≤_, _<_}
 use native.Mathlib.Omega.{arith}
 use borrow.Author.Needs.{needs}
@@ -9,8 +9,10 @@ use Rattle.kit.specs.Range.{one}
 use Rattle.sets.specs.Sets.{setOf}
 use Rattle.sets.proofs.Laws.{made-more, made-lt}
 use Rattle.vote.specs.Consider.{pendingSet}
+use Rattle.vote.specs.Numbers.{votesFrom}
 use Rattle.vote.specs.Data.{isPending, voteAt}
 use Rattle.vote.specs.declared.data.Vote.{Vote}
+use Rattle.vote.proofs.VoteNumbers.{votes-at}
 use Rattle.vote.proofs.consider.pending_in.Statement.{statement}
 use Rattle.vote.proofs.consider.pending_in.Tie as tie
 
@@ -19,7 +21,7 @@ abbrev waits : List Vote → ℕ → Bool
 waits votes j = isPending (voteAt votes j)
 
 abbrev Inv-loop : tie.InvT-loop
-Inv-loop votes set₀ j₀ set j = (j ≤ 16) × (set ≡ setOf j (waits votes))
+Inv-loop votes set₀ j₀ set j = (j ≤ 16) × (set ≡ setOf j (waits (votesFrom votes)))
 
 abbrev μ-loop : tie.MeasureT-loop
 μ-loop votes set₀ j₀ set j = 16 - j
@@ -32,8 +34,10 @@ loop-holds c = (omega arith, refl)
 small : (c : tie.After-one-if Inv-loop μ-loop) → c .before .before .before .before .loop .j < 32
 small c = omega arith
 
-counted : (c : tie.After-one-if Inv-loop μ-loop) → c .one-if .result ≡ one (waits (c .before .before .before .before .before .args .t1) (c .before .before .before .before .loop .j))
-counted c = c .one-if .ensures ∙ ap one (c .before .is-pending .ensures)
+counted : (c : tie.After-one-if Inv-loop μ-loop) → c .one-if .result ≡ one (waits (votesFrom (c .before .before .before .before .before .args .votes .now)) (c .before .before .before .before .loop .j))
+counted c =
+    c .one-if .ensures
+    ∙ ap one (c .before .is-pending-number .ensures ∙ ap isPending (sym (votes-at (c .before .before .before .before .before .args .votes .now) (c .before .before .before .before .loop .j) (c .before .before .before .loop-test .taken))))
 
 pub pending-in-spec : {M : Type 1} → statement M
 unfolding pendingSet
@@ -44,13 +48,12 @@ pending-in-spec =
     μ-loop
     loop-holds
     (λ c. search needs)
-    (λ c. search needs)
     (λ c κs. search needs)
     (λ c κs. search needs)
     (λ c. search needs)
     (λ c. search needs)
-    (λ c. record { fits = made-lt 32 _ (waits (c .before .before .before .before .before .args .t1)) (small c) (c .before .before .before .before .loop .inv .1) (counted c) })
+    (λ c. record { fits = made-lt 32 _ (waits (votesFrom (c .before .before .before .before .before .args .votes .now))) (small c) (c .before .before .before .before .loop .inv .1) (counted c) })
     (λ c. search needs)
     (λ c. search needs)
-    (λ c. (omega arith, made-more 32 _ (waits (c .before .before .before .before .before .args .t1)) (small c) (c .before .before .before .before .loop .inv .1) (counted c)))
+    (λ c. (omega arith, made-more 32 _ (waits (votesFrom (c .before .before .before .before .before .args .votes .now))) (small c) (c .before .before .before .before .loop .inv .1) (counted c)))
     (λ c. let e : c .before .loop .j ≡ 16 = omega arith in rw (← e) (c .before .loop .inv .1)))

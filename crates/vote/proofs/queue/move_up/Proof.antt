@@ -1,6 +1,6 @@
 -- `vote::queue::move_up` meets its contract: what is left to do at j gives the queue without its place i.
-use mathlib.Core.Path.{_≡_, _∙_}
-use Prim.Native.Nat.{suc, _-_, _≤_, _<_}
+use mathlib.Core.Path.{_≡_, refl, _∙_}
+use Prim.Native.Nat.{suc, _-_, _<_}
 use native.Mathlib.Numerals.{add-one}
 use native.Mathlib.Omega.{arith}
 use borrow.Author.Needs.{needs}
@@ -11,17 +11,14 @@ use Rattle.vote.proofs.queue.move_up.Statement.{statement}
 use Rattle.vote.proofs.queue.move_up.Tie as tie
 
 abbrev Inv-loop : tie.InvT-loop
-Inv-loop i queue₀ j₀ queue j = (without 0 queue j ≡ without 0 queue₀ i) × (j ≤ 15) × (length queue ≡ 16)
+Inv-loop queue₀ i end j₀ queue j = (without 0 queue j ≡ without 0 queue₀ i) × (j < end) × (length queue ≡ end)
 
 abbrev μ-loop : tie.MeasureT-loop
-μ-loop i queue₀ j₀ queue j = 15 - j
-
-long : (c : tie.Start Inv-loop μ-loop) → length (c .args .t1) ≡ 16
-long c = search needs
+μ-loop queue₀ i end j₀ queue j = end - j
 
 loop-again : tie.Need-loop-again Inv-loop μ-loop
 loop-again c =
-    let l = c .before .loop in
+    let l = c .before .before .loop in
     let h : suc (l .j) < length (l .queue) = omega arith in
     (rw add-one (without-turn 0 (l .queue) (l .j) h ∙ l .inv .0), omega arith, simp length-set (l .inv .2))
 
@@ -31,8 +28,9 @@ move-up-spec =
     (tie.spec
     Inv-loop
     μ-loop
-    (λ c. without-none 0 _ _ (omega (arith, long (c .before))))
-    (λ c. search (arith, long (c .before)))
+    (λ c. search without-none)
+    (λ c. (refl, omega arith, refl))
+    (λ c. omega arith)
     (λ c. omega arith)
     (λ c. omega arith)
     (λ c. omega arith)
@@ -40,4 +38,5 @@ move-up-spec =
     (λ c. omega arith)
     loop-again
     (λ c. omega arith)
+    (λ c. search (needs, length-set))
     (λ c. let l = c .before .loop in without-last 0 (l .queue) (l .j) (omega arith) ∙ l .inv .0))

@@ -5,18 +5,12 @@ use mathlib.Core.List.{List}
 use Prim.Native.Nat.{ℕ}
 use borrow.Author.Needs.{needs}
 use Rattle.vote.specs.Data.{isOk}
-use Rattle.vote.specs.Notes.{notesMarked, oksVoted, othersVoted}
+use Rattle.vote.specs.Notes.{oksVoted, othersVoted}
 use Rattle.vote.specs.Voters.{onlyVoter, joinVoters}
-use Rattle.vote.specs.Voting.{markPut}
 use Rattle.vote.specs.declared.data.Mark.{Mark}
-use Rattle.vote.specs.declared.data.Notes.{Notes}
-use Rattle.vote.specs.declared.data.Vote.{Vote}
+use Rattle.vote.proofs.NoteRows.{votes-said}
 use Rattle.vote.proofs.voting.cast_vote.Statement.{statement}
 use Rattle.vote.proofs.voting.cast_vote.Tie as tie
-
-marks-notes : (k : Notes) (p : ℕ) (m : Mark) {l : List Vote} → l ≡ markPut (k .votes) p m → _≡_ {A = Notes} (record { votes = l; queue = k .queue; waiting = k .waiting }) (notesMarked k p m)
-unfolding notesMarked
-marks-notes k p m e = rw e
 
 module _ (me : ℕ) (known : List Bool) (p : ℕ) (m : Mark) {r : Bool} (ok : r ≡ isOk m) where
   joins-oks : {own more : List Bool} → r ≡ true → own ≡ onlyVoter me → more ≡ joinVoters known p own → more ≡ oksVoted me known p m
@@ -43,6 +37,6 @@ cast-vote-spec =
     (λ c κs. search needs)
     (λ c κs. search needs)
     (λ c κs. search needs)
-    (λ c. search (marks-notes, joins-oks, keeps-others))
+    (λ c. (search needs, (search votes-said, (search joins-oks, search keeps-others))))
     (λ c κs. search needs)
-    (λ c. search (marks-notes, keeps-oks, joins-others)))
+    (λ c. (search needs, (search votes-said, (search keeps-oks, search joins-others)))))

@@ -5,8 +5,8 @@ use borrow.Author.Needs.{needs}
 use native.Mathlib.Omega.{arith}
 use lib.ListN.{length}
 use Rattle.kit.proofs.Listings.{length-mapped}
-use Rattle.vote.specs.Data.{requestAt, headsOf}
-use Rattle.walk.specs.Parts.{rowsUpTo, basedOf, newsOf, requestsFrom}
+use Rattle.vote.specs.Data.{requestAt, headsFrom}
+use Rattle.walk.specs.Parts.{rowsUpTo, basedOf, newsOf, namesOf, basesOf, updatesOf, requestsFrom}
 use Rattle.walk.proofs.Elements.{requests-long}
 use Rattle.walk.proofs.TakenApart.{rows-none, rows-more, rows-over, taken-apart}
 use Rattle.walk.proofs.parts.based_of.Statement.{statement}
@@ -22,7 +22,7 @@ long : (c : tie.Start Inv-loop μ-loop) → length (c .args .t1) ≡ 16
 long c = search (needs, length-mapped)
 
 -- nothing is lost
-all-there : (c : tie.Start Inv-loop μ-loop) → requestsFrom (headsOf (c .args .t1)) (basedOf (c .args .t1)) (newsOf (c .args .t1)) ≡ c .args .t1
+all-there : (c : tie.Start Inv-loop μ-loop) → requestsFrom (headsFrom (namesOf (c .args .t1)) (basesOf (c .args .t1)) (updatesOf (c .args .t1))) (basedOf (c .args .t1)) (newsOf (c .args .t1)) ≡ c .args .t1
 all-there c = let g = c .good .0 in taken-apart (c .args .t1) (long c) (requests-long (c .args .t1) (g .0) (g .1 .1) (long c))
 
 pub based-of-spec : {M : Type 1} → statement M
