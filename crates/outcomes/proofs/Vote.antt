@@ -22,8 +22,8 @@ use Rattle.vote.proofs.consider.is_blocked.Kinds as is-blocked-kinds
 use Rattle.vote.proofs.consider.is_blocked.Reads as is-blocked-reads
 use Rattle.vote.proofs.consider.is_blocked_above.Kinds as is-blocked-above-kinds
 use Rattle.vote.proofs.consider.is_blocked_above.Reads as is-blocked-above-reads
-use Rattle.vote.proofs.consider.consider.Kinds as consider-kinds
-use Rattle.vote.proofs.consider.consider.Reads as consider-reads
+use Rattle.vote.proofs.consider.weigh.Kinds as weigh-kinds
+use Rattle.vote.proofs.consider.weigh.Reads as weigh-reads
 use Rattle.vote.proofs.consider.mark_of.Kinds as mark-of-kinds
 use Rattle.vote.proofs.consider.mark_of.Reads as mark-of-reads
 use Rattle.vote.proofs.consider.is_deferral.Kinds as is-deferral-kinds
@@ -157,9 +157,9 @@ one-is-blocked κs a r r′ w w′ p q = (as-one p q, refl)
 pub one-is-blocked-above : OneOutcome is-blocked-above-kinds.ps is-blocked-above-kinds.r is-blocked-above-reads.Learnt
 one-is-blocked-above κs a r r′ w w′ p q = (as-one p q, refl)
 
--- vote::consider::consider
-pub one-consider : OneOutcome consider-kinds.ps consider-kinds.r consider-reads.Learnt
-one-consider κs a r r′ w w′ p q = (as-one p q, refl)
+-- vote::consider::weigh
+pub one-weigh : OneOutcome weigh-kinds.ps weigh-kinds.r weigh-reads.Learnt
+one-weigh κs a r r′ w w′ p q = (as-one p q, refl)
 
 -- vote::consider::mark_of
 pub one-mark-of : OneOutcome mark-of-kinds.ps mark-of-kinds.r mark-of-reads.Learnt

@@ -2,7 +2,7 @@
 use Prim.Native.Nat.{ℕ, _<_, _≤_}
 use mathlib.Core.Bool.{Bool, true, false, _&&_}
 use mathlib.Core.List.{List}
-use mathlib.Core.Path.{_≡_}
+use mathlib.Core.Path.{_≡_, refl}
 use native.Mathlib.Omega.{arith}
 use borrow.Author.Tests.{eq-eqb, ne-eqb, lt-ltb, le-ltb}
 use lib.Dec.{eqb, ltb}
@@ -22,11 +22,19 @@ open-beyond k n b e l = rw (le-ltb k n (omega arith))
 pub open-within : (k n : ℕ) {r : Bool} {i : ℕ} {v : Vote} (w : Vote) → i ≡ n → k < i → v ≡ w → r ≡ isOpen (v .verdict) → r ≡ (ltb k n && isOpen (w .verdict))
 open-within k n w e l f h = rw (lt-ltb k n (omega arith), ← f) h
 
-pub named-unused : (row : List ℕ) (b : Bool) → getD row 0 0 ≡ 0 → false ≡ (isLetter row && b)
-named-unused row b h = rw (eq-eqb (getD row 0 0) 0 h)
+pub named-other : (row : List ℕ) (r p : ℕ) → (r ≡ p → ⊥) → false ≡ (isLetter row && eqb r p)
+named-other row r p h = rw (ne-eqb r p h) (no-and (isLetter row))
+  where
+    no-and : (b : Bool) → false ≡ (b && false)
+    no-and true = refl
+    no-and false = refl
 
-pub named-used : (row : List ℕ) (r p : ℕ) → (getD row 0 0 ≡ 0 → ⊥) → eqb r p ≡ (isLetter row && eqb r p)
-named-used row r p h = rw (ne-eqb (getD row 0 0) 0 h)
+pub named-used : (row : List ℕ) (r p : ℕ) → r ≡ p → isLetter row ≡ (isLetter row && eqb r p)
+named-used row r p h = rw (eq-eqb r p h) (and-yes (isLetter row))
+  where
+    and-yes : (b : Bool) → b ≡ (b && true)
+    and-yes true = refl
+    and-yes false = refl
 
 -- ---- the number
 

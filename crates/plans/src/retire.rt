@@ -43,10 +43,10 @@ fn is_open_somewhere(n: u8, votes: &[[u8; 16]; 7], p: u8) -> bool
 fn is_naming(row: &[u8; 5], p: u8) -> bool
     ensures { λ r. ⌜ r ≡ (isLetter (now (row .entry)) && eqb (getD (now (row .entry)) 1 0) p) ⌝ }
 {
-    if row[0] == 0 {
+    if row[1] != p {
         return false;
     }
-    row[1] == p
+    row[0] != 0
 }
 
 // Whether some message names the request at place p.

@@ -44,14 +44,16 @@ blockedAbove heads votes q = any 16 (λ j. inWayAbove (voteAt votes j) (headAt h
 unfoldable pub blocked : List Head → List Vote → Head → Bool
 blocked heads votes q = any 16 (λ j. inWay (voteAt votes j) (headAt heads j) q)
 
+-- the first of these two that fits; 5. if none fits, OK
+abbrev pub weighed : List Head → List Vote → Head → Outcome
+weighed heads votes q = cond (blockedAbove heads votes q) outcome.Dr (cond (blocked heads votes q) outcome.DeferPending outcome.Ok)
+
 -- the first of the five that fits. A request is considered only while its mark is none or deferred, so it is not pending itself.
 unfoldable pub considered : List Head → List Vote → List ℕ → Request → Outcome
 considered heads votes held q =
     cond (newerCopy (q .base) (q .stamps) held) outcome.Rej
     (cond (olderCopy (q .base) (q .stamps) held) outcome.DeferBase
-    (cond (blockedAbove heads votes (headOf q)) outcome.Dr
-    (cond (blocked heads votes (headOf q)) outcome.DeferPending
-    outcome.Ok)))
+    (weighed heads votes (headOf q)))
 
 -- the mark that an outcome leaves
 abbrev pub markOf : Outcome → Mark

@@ -1,9 +1,8 @@
 // Considering a request: document 01's five rules.
 ghost use mathlib.Core.Path.{_≡_};
 ghost use mathlib.Core.Bool.{_&&_};
-ghost use mathlib.Core.List.{[]};
-ghost use Rattle.vote.specs.Data.{isOk, isOther, isUnmarked, isDeferred, isOpen, isPending, headsFrom, requestOf};
-ghost use Rattle.vote.specs.Consider.{newerCopy, olderCopy, pendingSet, blocked, blockedAbove, considered, markOf, defers};
+ghost use Rattle.vote.specs.Data.{isOk, isOther, isUnmarked, isDeferred, isOpen, isPending, headsFrom};
+ghost use Rattle.vote.specs.Consider.{newerCopy, olderCopy, pendingSet, blocked, blockedAbove, weighed, markOf, defers};
 ghost use Rattle.vote.specs.Numbers.{voteFrom, votesFrom};
 ghost use Rattle.vote.specs.Requests.{conflicts, outranks};
 use crate::data::Head;
@@ -183,25 +182,17 @@ pub fn is_blocked_above<'a>(
     false
 }
 
-// What a site makes of the request with head q and base stamps `based`, where `names`, `bases` and `updates` are the heads of the table's
-// requests, `votes` what it has said of them and `held` its copy's stamps. Rule 5 comes before 3 and 4: who conflicts with no pending request conflicts with none of higher priority.
-pub fn consider<'a>(
+// What a site makes of the request with head q whose base stamps are those of its copy, where `names`, `bases` and `updates` are the heads
+// of the table's requests and `votes` what it has said of them. Rule 5 comes before 3 and 4: who conflicts with no pending request conflicts with none of higher priority.
+pub fn weigh<'a>(
     names: &'a [u64; 16],
     bases: &'a [u32; 16],
     updates: &'a [u32; 16],
     votes: &'a [u8; 16],
-    held: &'a [u64; 24],
     q: Head,
-    based: &'a [u64; 24],
 ) -> Outcome
-    ensures { λ r. ⌜ r ≡ considered (headsFrom (now (names .entry)) (now (bases .entry)) (now (updates .entry))) (votesFrom (now (votes .entry))) (now (held .entry)) (requestOf q (now (based .entry)) []) ⌝ }
+    ensures { λ r. ⌜ r ≡ weighed (headsFrom (now (names .entry)) (now (bases .entry)) (now (updates .entry))) (votesFrom (now (votes .entry))) q ⌝ }
 {
-    if is_newer(q.base, based, held) {
-        return Outcome::Rej;
-    }
-    if is_older(q.base, based, held) {
-        return Outcome::DeferBase;
-    }
     if !is_blocked(names, bases, updates, votes, q) {
         return Outcome::Ok;
     }

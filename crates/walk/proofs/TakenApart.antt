@@ -1,11 +1,12 @@
 -- Requests taken apart: rows read and written, and that the parts put together again are the requests.
 use Prim.Native.Nat.{ℕ, zero, suc, _+_, _*_, _≤_, _<_}
-use mathlib.Core.Bool.{cond}
+use mathlib.Core.Bool.{true, false, cond}
 use mathlib.Core.List.{List}
 use mathlib.Core.Path.{_≡_, refl, ap, sym, _∙_}
 use native.Mathlib.Numerals.{add-one}
 use native.Mathlib.Omega.{arith}
 use borrow.Author.Tests.{lt-ltb, le-ltb}
+use lib.Dec.{ltb}
 use lib.IntN.{ℤ, pos}
 use lib.ListN.{length, getD, set, replicate, length-set, length-replicate, List·getD-eq-default}
 use lib.Seq.{getD-set-same, getD-set-other}
@@ -38,6 +39,11 @@ module _ {A : Type 0} (d : A) where
   row-is : (l : List A) (p : ℕ) → p < 16 → rowAt d l p ≡ listed 24 (rowItem d l p)
   unfolding rowAt
   row-is l p h = rw (lt-ltb p 16 h)
+
+  -- an item of it, read where it stands
+  pub row-item : (l : List A) {at p : ℕ} (i : ℕ) → at ≡ p → at ≤ 15 → i < 24 → getD l (24 * at + i) d ≡ getD (rowAt d l p) i d
+  unfolding rowItem
+  row-item l {at} {p} i e b h = rw (row-is l p (omega arith), listed-at 24 i (rowItem d l p) d h, e)
 
   -- a row read whole
   pub row-whole
@@ -227,6 +233,20 @@ module _ (names bases updates based : List ℕ) (news : List ℤ) where
   part-updates l =
       listed-is 16 (λ p. requestAt (requestsFrom (headsFrom names bases updates) based news) p .update) 0 updates l
       (λ p h. rw (part-at (headsFrom names bases updates) based news p h, heads-at names bases updates p h))
+
+-- an item of a row of stamps, compared where it stands
+module _ (based : List ℕ) {at p : ℕ} (i x : ℕ) (e : at ≡ p) (b : at ≤ 15) (h : i < 24) where
+  pub stamp-below : getD based (24 * at + i) 0 < x → ltb (getD (rowAt 0 based p) i 0) x ≡ true
+  stamp-below l = rw (← row-item 0 based i e b h) (lt-ltb _ _ l)
+
+  pub stamp-not-below : x ≤ getD based (24 * at + i) 0 → ltb (getD (rowAt 0 based p) i 0) x ≡ false
+  stamp-not-below l = rw (← row-item 0 based i e b h) (le-ltb _ _ l)
+
+  pub stamp-above : x < getD based (24 * at + i) 0 → ltb x (getD (rowAt 0 based p) i 0) ≡ true
+  stamp-above l = rw (← row-item 0 based i e b h) (lt-ltb _ _ l)
+
+  pub stamp-not-above : getD based (24 * at + i) 0 ≤ x → ltb x (getD (rowAt 0 based p) i 0) ≡ false
+  stamp-not-above l = rw (← row-item 0 based i e b h) (le-ltb _ _ l)
 
 -- requests taken apart and put together again are the same
 pub taken-apart

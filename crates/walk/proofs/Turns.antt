@@ -44,22 +44,22 @@ pub record Turn (me n : ℕ) (rs : List Request) (s : Site) (i p : ℕ) (o : Out
 
 -- with the requests taken apart: what comes of considering one
 pub outcome-is
-    : (heads : List Head) (based : List ℕ) (news : List ℤ) (votes : List Vote) (st : List ℕ) (p : ℕ) {o : Outcome} {q : Head} {row : List ℕ}
-    → length heads ≡ 16 → q ≡ headAt heads p → row ≡ rowAt 0 based p → o ≡ considered heads votes st (requestOf q row [])
+    : (heads : List Head) (based : List ℕ) (news : List ℤ) (votes : List Vote) (st : List ℕ) (p : ℕ) {o : Outcome}
+    → length heads ≡ 16 → o ≡ considered heads votes st (requestOf (headAt heads p) (rowAt 0 based p) [])
     → o ≡ considered (headsOf (requestsFrom heads based news)) votes st (requestIn (requestsFrom heads based news) p)
-outcome-is heads based news votes st p {o} {q} {row} few hq hr ho =
-    rw (part-heads heads based news few, part-in heads based news few p, ← hq, ← hr)
-    (ho ∙ considered-parts heads votes st (requestOf q row (rowAt (pos 0) news p)) [])
+outcome-is heads based news votes st p {o} few ho =
+    rw (part-heads heads based news few, part-in heads based news few p)
+    (ho ∙ considered-parts heads votes st (requestOf (headAt heads p) (rowAt 0 based p) (rowAt (pos 0) news p)) [])
 
 pub turn-is
-    : (me n : ℕ) (heads : List Head) (based : List ℕ) (news : List ℤ) (s : Site) (i p : ℕ) (o : Outcome) {q : Head} {row : List ℕ} {w : ℕ} {a : Settled}
-    → length heads ≡ 16 → i < w → w ≡ s .waiting → p ≡ queued s i → q ≡ headAt heads p → row ≡ rowAt 0 based p
-    → o ≡ considered heads (s .votes) (s .stamps) (requestOf q row []) → answerOf (walked me n (requestsFrom heads based news) s i) ≡ a
+    : (me n : ℕ) (heads : List Head) (based : List ℕ) (news : List ℤ) (s : Site) (i p : ℕ) (o : Outcome) {w : ℕ} {a : Settled}
+    → length heads ≡ 16 → i < w → w ≡ s .waiting → p ≡ queued s i
+    → o ≡ considered heads (s .votes) (s .stamps) (requestOf (headAt heads p) (rowAt 0 based p) []) → answerOf (walked me n (requestsFrom heads based news) s i) ≡ a
     → Turn me n (requestsFrom heads based news) s i p o a
-turn-is me n heads based news s i p o few h hw hp hq hr ho e = record {
+turn-is me n heads based news s i p o few h hw hp ho e = record {
   inside = rw hw at h;
   place = hp;
-  outcome = rw (← hp) (outcome-is heads based news (s .votes) (s .stamps) p few hq hr ho);
+  outcome = rw (← hp) (outcome-is heads based news (s .votes) (s .stamps) p few ho);
   answer = e;
 }
 

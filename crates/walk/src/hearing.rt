@@ -8,12 +8,10 @@ ghost use Rattle.vote.specs.Numbers.{notesFrom};
 ghost use Rattle.walk.specs.Hearing.{takenUp, received};
 ghost use Rattle.walk.specs.Walking.{answerOf, left};
 ghost use Rattle.walk.specs.Parts.{requestsFrom};
-use crate::parts::head_at;
-use crate::parts::stamps_at;
+use crate::considering::consider_at;
 use crate::walking::Settled;
 use crate::walking::resolve;
 use crate::walking::rest;
-use vote::consider::consider;
 use vote::consider::is_deferral;
 use vote::consider::is_open;
 use vote::consider::is_unmarked;
@@ -46,9 +44,7 @@ pub fn take_up<'a>(
     ensures { λ r. ⌜ ((up : Bool) (last : ℕ) → left up last r (now (stamps .exit)) (now (values .exit)) (now (votes .exit)) (now (queue .exit)) (now (oks .exit)) (now (others .exit))
         ≡ answerOf (takenUp me n (requestsFrom (headsFrom (now (names .entry)) (now (bases .entry)) (now (updates .entry))) (now (based .entry)) (now (news .entry))) (siteOf up last (now (stamps .entry)) (now (values .entry)) (notesFrom (now (votes .entry)) (now (queue .entry)) waiting) (now (oks .entry)) (now (others .entry))) p)) ⌝ }
 {
-    let row = stamps_at(based, p);
-    let q = head_at(names, bases, updates, p);
-    let o = consider(names, bases, updates, votes, stamps, q, &row);
+    let o = consider_at(names, bases, updates, votes, stamps, based, p);
     if is_deferral(o) {
         return rest(defer(votes, queue, waiting, p));
     }

@@ -24,7 +24,7 @@ pub(crate) fn head_at<'a>(
 }
 
 // Its base stamps, copied out; 0 of a place above 15.
-pub(crate) fn stamps_at(based: &[u64; 384], p: u8) -> [u64; 24]
+fn stamps_at(based: &[u64; 384], p: u8) -> [u64; 24]
     ensures { λ r. ⌜ r ≡ rowAt 0 (now (based .entry)) p ⌝ }
 {
     let mut row = [0u64; 24];

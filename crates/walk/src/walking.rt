@@ -8,10 +8,9 @@ ghost use Rattle.vote.specs.Notes.{siteOf};
 ghost use Rattle.vote.specs.Numbers.{notesFrom};
 ghost use Rattle.walk.specs.Walking.{walked, resolved, acceptsOf, rejectsOf, answerOf, left};
 ghost use Rattle.walk.specs.Parts.{requestsFrom};
+use crate::considering::consider_at;
 use crate::parts::head_at;
-use crate::parts::stamps_at;
 use crate::parts::values_at;
-use vote::consider::consider;
 use vote::consider::is_deferral;
 use vote::consider::is_open;
 use vote::consider::mark_of;
@@ -86,9 +85,7 @@ fn walk<'a>(
     let mut i: usize = 0;
     while i < kit::index(waiting) {
         let p = queued_at(queue, i);
-        let row = stamps_at(based, p);
-        let q = head_at(names, bases, updates, p);
-        let o = consider(names, bases, updates, votes, stamps, q, &row);
+        let o = consider_at(names, bases, updates, votes, stamps, based, p);
         if is_deferral(o) {
             i += 1;
         } else {

@@ -1,5 +1,5 @@
 -- `plans::retire::is_naming` meets its contract.
-use Rattle.plans.proofs.Retiring.{named-unused, named-used}
+use Rattle.plans.proofs.Retiring.{named-other, named-used}
 use borrow.Author.Needs.{needs}
 use Rattle.plans.proofs.retire.is_naming.Statement.{statement}
 use Rattle.plans.proofs.retire.is_naming.Tie as tie
@@ -9,6 +9,6 @@ is-naming-spec =
     tie.close
     (tie.spec
     (λ c. search needs)
-    (λ c. search named-unused)
+    (λ c. search named-other)
     (λ c. search needs)
     (λ c. search named-used))

@@ -1,4 +1,4 @@
--- `steps::down_step` meets its contract.
+-- `steps::acting::down_step` meets its contract.
 use Rattle.record.specs.Records.{stepFrom}
 use Rattle.steps.proofs.Arms.{down-refused, down-done}
 use Rattle.steps.proofs.acting.down_step.Statement.{statement}

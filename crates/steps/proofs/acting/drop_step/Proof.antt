@@ -1,4 +1,4 @@
--- `steps::drop_step` meets its contract.
+-- `steps::acting::drop_step` meets its contract.
 use Rattle.plans.specs.Letters.{letterOf}
 use Rattle.record.specs.Records.{stepFrom}
 use Rattle.steps.proofs.Arms.{drop-asked, drop-refused, drop-end, place-given, used-there, long-put}

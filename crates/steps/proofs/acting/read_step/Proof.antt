@@ -1,4 +1,4 @@
--- `steps::read_step` meets its contract.
+-- `steps::acting::read_step` meets its contract.
 use Rattle.record.specs.Records.{stepFrom}
 use Rattle.steps.proofs.Arms.{read-arm}
 use Rattle.steps.proofs.acting.read_step.Statement.{statement}

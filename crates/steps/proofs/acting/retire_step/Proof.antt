@@ -1,4 +1,4 @@
--- `steps::retire_step` meets its contract.
+-- `steps::acting::retire_step` meets its contract.
 use Rattle.kit.proofs.Changes.{length-changed}
 use Rattle.record.specs.Records.{stepFrom}
 use Rattle.steps.proofs.Arms.{retire-asked, retire-none, retire-refused, retire-end, long-stored}

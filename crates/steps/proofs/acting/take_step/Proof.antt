@@ -1,4 +1,4 @@
--- `steps::take_step` meets its contract.
+-- `steps::acting::take_step` meets its contract.
 use Rattle.plans.specs.declared.answer.Answer.{Answer}
 use Rattle.record.specs.Records.{stepFrom}
 use Rattle.steps.proofs.Advancing.{code-1, code-2, code-3, code-4, code-5, code-6, code-7, code-8, code-none}

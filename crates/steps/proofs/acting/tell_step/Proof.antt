@@ -1,4 +1,4 @@
--- `steps::tell_step` meets its contract.
+-- `steps::acting::tell_step` meets its contract.
 use Prim.Native.Nat.{_<_, _^_}
 use Rattle.plans.specs.Answers.{results}
 use Rattle.plans.specs.Letters.{letterOf}

@@ -1,4 +1,4 @@
--- `steps::up_step` meets its contract.
+-- `steps::acting::up_step` meets its contract.
 use Rattle.record.specs.Records.{stepFrom}
 use Rattle.steps.proofs.Arms.{up-refused, up-done}
 use Rattle.steps.proofs.acting.up_step.Statement.{statement}

@@ -14,21 +14,21 @@ use Rattle.walk.proofs.hearing.take_up.Statement.{statement}
 use Rattle.walk.proofs.hearing.take_up.Tie as tie
 
 -- where it started
-abbrev at-start : tie.After-consider → tie.Start
-at-start c = c .before .before .before .before .before .before
+abbrev at-start : tie.After-consider-at → tie.Start
+at-start c = c .before .before .before
 
 -- the requests
-abbrev requests : tie.After-consider → List Request
+abbrev requests : tie.After-consider-at → List Request
 requests c =
     let a = at-start c .args in
     requestsFrom (headsFrom (a .names .now) (a .bases .now) (a .updates .now)) (a .based .now) (a .news .now)
 
 -- what came of considering it
 came
-    : (c : tie.After-consider)
-    → c .consider .result
+    : (c : tie.After-consider-at)
+    → c .consider-at .result
     ≡ considered (headsOf (requests c)) (votesFrom (at-start c .args .votes .now)) (at-start c .args .stamps .now) (requestIn (requests c) (at-start c .args .p))
-came c = outcome-is _ _ _ _ _ _ (length-heads _ _ _) (c .before .before .before .before .head-at .ensures) (c .before .before .before .before .before .stamps-at .ensures) (c .consider .ensures)
+came c = outcome-is _ _ _ _ _ _ (length-heads _ _ _) (c .consider-at .ensures)
 
 returns : tie.Need-returns
 returns c up last =
@@ -58,8 +58,6 @@ pub take-up-spec : {M : Type 1} → statement M
 take-up-spec =
     tie.close
     (tie.spec
-    (λ c κs. search needs)
-    (λ c κs. search needs)
     (λ c κs. search needs)
     (λ c κs. search needs)
     (λ c κs. search needs)

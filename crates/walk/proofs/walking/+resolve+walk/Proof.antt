@@ -25,7 +25,6 @@ use Rattle.walk.proofs.walking.walk.Reads as walk
 use Rattle.walk.proofs.walking.walk.Kinds as walk-kinds
 use Rattle.walk.proofs.walking.+resolve+walk.Lts-walk as walk-lts
 use Rattle.kit.proofs.index.Reads as index-reads
-use Rattle.vote.proofs.consider.consider.Reads as consider-reads
 use Rattle.vote.proofs.consider.is_deferral.Reads as is-deferral-reads
 use Rattle.vote.proofs.consider.is_open.Reads as is-open-reads
 use Rattle.vote.proofs.consider.mark_of.Reads as mark-of-reads
@@ -35,8 +34,8 @@ use Rattle.vote.proofs.verdicts.rule.Reads as rule-reads
 use Rattle.vote.proofs.verdicts.verdict_due.Reads as verdict-due-reads
 use Rattle.vote.proofs.verdicts.write_ruled.Reads as write-ruled-reads
 use Rattle.vote.proofs.voting.cast_vote.Reads as cast-vote-reads
+use Rattle.walk.proofs.considering.consider_at.Reads as consider-at-reads
 use Rattle.walk.proofs.parts.head_at.Reads as head-at-reads
-use Rattle.walk.proofs.parts.stamps_at.Reads as stamps-at-reads
 use Rattle.walk.proofs.parts.values_at.Reads as values-at-reads
 use Rattle.walk.proofs.walking.one_if_accepted.Reads as one-if-accepted-reads
 use Rattle.walk.proofs.walking.one_if_rejected.Reads as one-if-rejected-reads
@@ -87,12 +86,8 @@ walk-sees t = (
   index-reads.Learnt,
   queued-at-reads.Asked,
   queued-at-reads.Learnt,
-  stamps-at-reads.Asked,
-  stamps-at-reads.Learnt,
-  head-at-reads.Asked,
-  head-at-reads.Learnt,
-  consider-reads.Asked,
-  consider-reads.Learnt,
+  consider-at-reads.Asked,
+  consider-at-reads.Learnt,
   is-deferral-reads.Asked,
   is-deferral-reads.Learnt,
   leave-queue-reads.Asked,
@@ -171,28 +166,28 @@ abbrev walk-μ-loop : walk-lts.MeasureT-loop
 walk-μ-loop names bases updates based news votes₀ queue₀ waiting₀ stamps₀ values₀ oks₀ others₀ n me i₀ votes queue waiting stamps values oks others i = waiting - i
 
 -- where the loop stood, and the call
-abbrev at-loop : (t : ℕ) → walk-lts.After-consider (walk-sees t) (walk-at t) walk.Post walk-Inv-loop walk-μ-loop → walk-lts.At-loop (walk-sees t) (walk-at t) walk.Post walk-Inv-loop walk-μ-loop
-at-loop t c = c .before .before .before .before .before .before .before .before .before .before .before
+abbrev at-loop : (t : ℕ) → walk-lts.After-consider-at (walk-sees t) (walk-at t) walk.Post walk-Inv-loop walk-μ-loop → walk-lts.At-loop (walk-sees t) (walk-at t) walk.Post walk-Inv-loop walk-μ-loop
+at-loop t c = c .before .before .before .before .before .before .before .before
 
-abbrev at-start : (t : ℕ) → walk-lts.After-consider (walk-sees t) (walk-at t) walk.Post walk-Inv-loop walk-μ-loop → walk-lts.Start (walk-sees t) (walk-at t) walk.Post walk-Inv-loop walk-μ-loop
+abbrev at-start : (t : ℕ) → walk-lts.After-consider-at (walk-sees t) (walk-at t) walk.Post walk-Inv-loop walk-μ-loop → walk-lts.Start (walk-sees t) (walk-at t) walk.Post walk-Inv-loop walk-μ-loop
 at-start t c = at-loop t c .before
 
 -- the requests, and what the site had noted where the loop stood
-abbrev requests : (t : ℕ) → walk-lts.After-consider (walk-sees t) (walk-at t) walk.Post walk-Inv-loop walk-μ-loop → List Request
+abbrev requests : (t : ℕ) → walk-lts.After-consider-at (walk-sees t) (walk-at t) walk.Post walk-Inv-loop walk-μ-loop → List Request
 requests t c =
     let a = at-start t c .args in
     requestsFrom (headsFrom (a .names .now) (a .bases .now) (a .updates .now)) (a .based .now) (a .news .now)
 
-abbrev noted : (t : ℕ) → walk-lts.After-consider (walk-sees t) (walk-at t) walk.Post walk-Inv-loop walk-μ-loop → Notes
+abbrev noted : (t : ℕ) → walk-lts.After-consider-at (walk-sees t) (walk-at t) walk.Post walk-Inv-loop walk-μ-loop → Notes
 noted t c = let l = at-loop t c .loop in notesFrom (l .votes) (l .queue) (l .waiting)
 
 -- what came of the turn
 walk-turn
-    : (t : ℕ) (c : walk-lts.After-consider (walk-sees t) (walk-at t) walk.Post walk-Inv-loop walk-μ-loop) (up : Bool) (last : ℕ)
+    : (t : ℕ) (c : walk-lts.After-consider-at (walk-sees t) (walk-at t) walk.Post walk-Inv-loop walk-μ-loop) (up : Bool) (last : ℕ)
     → Turn (at-start t c .args .me) (at-start t c .args .n) (requests t c)
     (siteOf up last (at-loop t c .loop .stamps) (at-loop t c .loop .values) (noted t c) (at-loop t c .loop .oks) (at-loop t c .loop .others))
     (at-loop t c .loop .i)
-    (c .before .before .before .before .before .before .queued-at .result) (c .consider .result)
+    (c .before .before .before .queued-at .result) (c .consider-at .result)
     (answerOf (walked (at-start t c .args .me) (at-start t c .args .n) (requests t c)
     (siteOf up last (at-start t c .args .stamps .now) (at-start t c .args .values .now) (notesFrom (at-start t c .args .votes .now) (at-start t c .args .queue .now) (at-start t c .args .waiting)) (at-start t c .args .oks .now) (at-start t c .args .others .now)) 0))
 walk-turn t c up last =
@@ -206,7 +201,7 @@ walk-some
 walk-some t c = (omega arith, omega arith)
 
 -- where a request was considered that has voted since
-abbrev at-turn : (t : ℕ) → walk-lts.After-is-open (walk-sees t) (walk-at t) walk.Post walk-Inv-loop walk-μ-loop → walk-lts.After-consider (walk-sees t) (walk-at t) walk.Post walk-Inv-loop walk-μ-loop
+abbrev at-turn : (t : ℕ) → walk-lts.After-is-open (walk-sees t) (walk-at t) walk.Post walk-Inv-loop walk-μ-loop → walk-lts.After-consider-at (walk-sees t) (walk-at t) walk.Post walk-Inv-loop walk-μ-loop
 at-turn t c = c .before .before .before .before .before .before .before .before .before .before .before .before .before
 
 -- the site that voted
@@ -217,7 +212,7 @@ walk-voted
     (c .before .before .before .before .cast-vote .last .1 .0) (c .before .before .before .before .cast-vote .last .1 .1 .0)
     ≡ votedFromQueue (at-start t (at-turn t c) .args .me)
     (siteOf up last (at-loop t (at-turn t c) .loop .stamps) (at-loop t (at-turn t c) .loop .values) (noted t (at-turn t c)) (at-loop t (at-turn t c) .loop .oks) (at-loop t (at-turn t c) .loop .others))
-    (at-loop t (at-turn t c) .loop .i) (at-turn t c .before .before .before .before .before .before .queued-at .result) (c .before .before .before .before .before .mark-of .result)
+    (at-loop t (at-turn t c) .loop .i) (at-turn t c .before .before .before .queued-at .result) (c .before .before .before .before .before .mark-of .result)
 walk-voted t c up last =
     let l = at-loop t (at-turn t c) .loop in
     let k = c .before .before .before .before .cast-vote in
@@ -235,14 +230,8 @@ walk-index-requires t c κs = search needs
 walk-queued-at-requires : (t : ℕ) → walk-lts.Need-queued-at-requires (walk-sees t) (walk-at t) walk.Post walk-Inv-loop walk-μ-loop
 walk-queued-at-requires t c κs = search needs
 
-walk-stamps-at-requires : (t : ℕ) → walk-lts.Need-stamps-at-requires (walk-sees t) (walk-at t) walk.Post walk-Inv-loop walk-μ-loop
-walk-stamps-at-requires t c κs = search needs
-
-walk-head-at-requires : (t : ℕ) → walk-lts.Need-head-at-requires (walk-sees t) (walk-at t) walk.Post walk-Inv-loop walk-μ-loop
-walk-head-at-requires t c κs = search needs
-
-walk-consider-requires : (t : ℕ) → walk-lts.Need-consider-requires (walk-sees t) (walk-at t) walk.Post walk-Inv-loop walk-μ-loop
-walk-consider-requires t c κs = search needs
+walk-consider-at-requires : (t : ℕ) → walk-lts.Need-consider-at-requires (walk-sees t) (walk-at t) walk.Post walk-Inv-loop walk-μ-loop
+walk-consider-at-requires t c κs = search needs
 
 walk-is-deferral-requires : (t : ℕ) → walk-lts.Need-is-deferral-requires (walk-sees t) (walk-at t) walk.Post walk-Inv-loop walk-μ-loop
 walk-is-deferral-requires t c κs = search needs
@@ -273,7 +262,7 @@ walk-is-open-requires t c κs = search needs
 
 walk-resolve-requires : (t : ℕ) → walk-lts.Need-resolve-requires (walk-sees t) (walk-at t) walk.Post walk-Inv-loop walk-μ-loop
 walk-resolve-requires t c κs =
-    let v = c .before .before .before .before .before .before .before in (omega (arith, walk-fewer t v, walk-some t (at-turn t v .before .before .before .before .before .before .before .before .before)), tt)
+    let v = c .before .before .before .before .before .before .before in (omega (arith, walk-fewer t v, walk-some t (at-turn t v .before .before .before .before .before .before)), tt)
 
 walk-returns : (t : ℕ) → walk-lts.Need-returns (walk-sees t) (walk-at t) walk.Post walk-Inv-loop walk-μ-loop
 walk-returns t c =
@@ -284,7 +273,7 @@ walk-returns t c =
 
 walk-loop-less-2 : (t : ℕ) → walk-lts.Need-loop-less-2 (walk-sees t) (walk-at t) walk.Post walk-Inv-loop walk-μ-loop
 walk-loop-less-2 t c =
-    let u = at-turn t (c .before) in fewer-left (u .before .before .before .before .before .before .before .before .before .if1 .taken) (u .before .before .before .before .before .before .before .before .before .before .index .ensures) (walk-fewer t (c .before))
+    let u = at-turn t (c .before) in fewer-left (u .before .before .before .before .before .before .if1 .taken) (u .before .before .before .before .before .before .before .index .ensures) (walk-fewer t (c .before))
 
 walk-loop-again-2 : (t : ℕ) → walk-lts.Need-loop-again-2 (walk-sees t) (walk-at t) walk.Post walk-Inv-loop walk-μ-loop
 walk-loop-again-2 t c =
@@ -324,9 +313,7 @@ pub +resolve+walk-spec : {M : Type 1} → statement M
     (walk-loop-holds t)
     (walk-index-requires t)
     (walk-queued-at-requires t)
-    (walk-stamps-at-requires t)
-    (walk-head-at-requires t)
-    (walk-consider-requires t)
+    (walk-consider-at-requires t)
     (walk-is-deferral-requires t)
     (walk-add-i t)
     (walk-loop-less t)
