@@ -23,9 +23,10 @@ use Rattle.vote.specs.Notes.{siteOf}
 use Rattle.vote.specs.Numbers.{markFrom, verdictFrom, voteFrom, votesFrom, numbersOf, notesFrom}
 use Rattle.vote.specs.declared.data.Site.{Site}
 use Rattle.plans.specs.Changes.{forgotten, votesForgotten, votersForgotten}
-use Rattle.plans.specs.Letters.{isLetter, letterFrom, messagesFrom}
+use Rattle.plans.specs.Letters.{isLetter, messagesFrom}
 use Rattle.plans.specs.Opened.{upsIn, lastsIn, stampsIn, valuesIn, votesIn, queuesIn, waitingsIn, oksIn, othersIn, siteFrom, sitesFrom}
 use Rattle.plans.specs.Pieces.{heldBack, heldBackBy}
+use Rattle.plans.proofs.Posting.{message-there}
 
 -- ---- taken apart
 
@@ -177,12 +178,6 @@ module _
 
       -- what is held back is so by the rows
       module _ (letters : List (List ℕ)) (told-oks told-others : List (List Bool)) where
-        letter-there
-            : (j : ℕ) → j < 64
-            → getD (messagesFrom letters told-oks told-others) j noMessage ≡ letterFrom (getD letters j []) (getD told-oks j []) (getD told-others j [])
-        unfolding messagesFrom
-        letter-there j h = listed-at 64 j (λ i. letterFrom (getD letters i []) (getD told-oks i []) (getD told-others i [])) noMessage h
-
         pub held-back-is
             : (n : ℕ)
             → heldBackBy n votes letters p ≡ heldBack n (sitesFrom ups lasts stamps values votes queues waitings oks others) (messagesFrom letters told-oks told-others) p
@@ -194,5 +189,5 @@ module _
                   (λ k h. ap (λ (s : Site). ltb k n && isOpen (voteAt (s .votes) p .verdict)) (sym (site-there k h))),
               any-same (λ j. isLetter (getD letters j []) && eqb (getD (getD letters j []) 1 0) p)
                   (λ j. getD (messagesFrom letters told-oks told-others) j noMessage .used && eqb (getD (messagesFrom letters told-oks told-others) j noMessage .request) p) 64
-                  (λ j h. ap (λ (m : Message). m .used && eqb (m .request) p) (sym (letter-there j h))),
+                  (λ j h. ap (λ (m : Message). m .used && eqb (m .request) p) (sym (message-there letters told-oks told-others h))),
             )
