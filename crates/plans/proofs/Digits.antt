@@ -8,7 +8,7 @@ use lib.IntN.{ℤ}
 use mir.Facts.{toZ-ofZ, sfits-widen}
 use mir.Syntax.{w32, w64}
 use mir.Val.{SFits, toZ, ofZ}
-use Rattle.kit.proofs.Bools.{and-left, and-right}
+use Rattle.kit.proofs.Bools.{and-right}
 
 pub not-not : (b : Bool) → b ≡ not (not b)
 not-not true = refl
@@ -23,9 +23,6 @@ pub digit-some : (n d : ℕ) → 1 ≤ d → leb d n ≡ (leb 1 d && leb d n)
 digit-some n d h = rw (le-leb 1 d h)
 
 pub ruleset digits = (digit-none, digit-some)
-
-pub digit-low : (n d : ℕ) {b : Bool} → b ≡ (leb 1 d && leb d n) → not b ≡ false → 1 ≤ d
-digit-low n d {b} h t = leb-true 1 d (and-left (leb 1 d) (leb d n) (sym h ∙ not-false b t))
 
 pub digit-high : (n d : ℕ) {b : Bool} → b ≡ (leb 1 d && leb d n) → not b ≡ false → d ≤ n
 digit-high n d {b} h t = leb-true d n (and-right (leb 1 d) (leb d n) (sym h ∙ not-false b t))

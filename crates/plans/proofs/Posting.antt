@@ -12,7 +12,7 @@ use lib.Pow.{pow-lt}
 use lib.Seq.{getD-set-same, getD-set-other, set-out}
 use Rattle.kit.specs.Range.{one, first}
 use Rattle.kit.proofs.Bools.{clash, by-lt, by-le}
-use Rattle.kit.proofs.Listings.{length-listed, listed-at}
+use Rattle.kit.proofs.Listings.{listed-at}
 use Rattle.kit.proofs.Ranges.{first-same}
 use Rattle.kit.proofs.Turns.{listed-is, listed-set}
 use Rattle.sets.specs.Sets.{member, setOf}
@@ -56,10 +56,6 @@ messages-opened ms e =
     (letter-back (getD ms i noMessage)))
 
 module _ (l : List (List ℕ)) (o t : List (List Bool)) where
-  pub length-messages : length (messagesFrom l o t) ≡ 64
-  unfolding messagesFrom
-  length-messages = length-listed 64 _
-
   pub message-there : {j : ℕ} → j < 64 → getD (messagesFrom l o t) j noMessage ≡ letterFrom (getD l j []) (getD o j []) (getD t j [])
   unfolding messagesFrom
   message-there {j} h = listed-at 64 j (λ i. letterFrom (getD l i []) (getD o i []) (getD t i [])) noMessage h

@@ -1,6 +1,6 @@
 -- Each step on the pieces that it takes out of the table, by the words that `steps` has for the whole of it.
 use Prim.Native.Nat.{ℕ, _-_}
-use mathlib.Core.Bool.{Bool, true, false, not, _&&_, _||_, cond}
+use mathlib.Core.Bool.{Bool, not, _&&_, _||_, cond}
 use mathlib.Core.List.{List, []}
 use lib.Dec.{eqb, leb, ltb}
 use lib.IntN.{ℤ, pos}
@@ -15,7 +15,6 @@ use Rattle.table.specs.declared.data.Message.{Message}
 use Rattle.sets.specs.Sets.{member}
 use Rattle.vote.specs.Data.{isOk, isOther, isOpen, voteAt, noHead}
 use Rattle.vote.specs.Numbers.{votesFrom}
-use Rattle.vote.specs.declared.data.Head.{Head}
 use Rattle.vote.specs.declared.data.Site.{Site}
 use Rattle.vote.specs.declared.data.Vote.{Vote}
 use Rattle.plans.specs.Answers.{refusal, results}

@@ -15,40 +15,35 @@ use Rattle.kit.specs.Lists.{listed, changed}
 use Rattle.kit.specs.Range.{any, first}
 use Rattle.plans.proofs.Found.{within-low}
 use Rattle.plans.proofs.Posting.{message-put, free-message-is, free-taken, free-given}
-use Rattle.plans.proofs.Opening.{length-sites, site-put, sites-up, sites-last, sites-forgot, held-back-is}
+use Rattle.plans.proofs.Opening.{sites-up, sites-forgot, held-back-is}
 use Rattle.plans.specs.Answers.{refusal, results}
-use Rattle.plans.specs.Changes.{messageOf, forgotten, stored, votesForgotten, votersForgotten}
-use Rattle.plans.specs.Letters.{letterOf, isLetter, letterFrom, freeSet, withoutPlace, withPlace, messagesFrom}
-use Rattle.plans.specs.Opened.{siteFrom, sitesFrom}
-use Rattle.plans.specs.Pieces.{within, siteIndex, freeIn, placeIn, freeMessageIn, noSuchDigit, noMessageThere, tellNumberOf, dropNumberOf, deliverNumberOf, issueAt, beginNumberOf, beginPlan, downNumberOf, upNumberOf, heldBack, heldBackBy, retireNumberOf, readNumberOf, readPlan}
+use Rattle.plans.specs.Changes.{messageOf, stored, votesForgotten, votersForgotten}
+use Rattle.plans.specs.Letters.{letterOf, isLetter, freeSet, withoutPlace, withPlace}
+use Rattle.plans.specs.Pieces.{within, siteIndex, placeIn, freeMessageIn, noSuchDigit, noMessageThere, tellNumberOf, dropNumberOf, downNumberOf, upNumberOf, heldBackBy, retireNumberOf, readNumberOf, readPlan}
 use Rattle.plans.specs.declared.answer.Answer.{Answer}
-use Rattle.plans.specs.declared.begin.Begun.{Begun}
 use Rattle.record.specs.declared.Step.{Step}
 use Rattle.sets.proofs.Laws.{member-none}
 use Rattle.sets.specs.Sets.{member}
-use Rattle.stamps.specs.Issue.{issueStamp, issueLast}
 use Rattle.table.specs.Fresh.{blankMessage}
-use Rattle.table.specs.Places.{noSite, noMessage, siteAt, messageAt, markAt, verdictAt, withSite, withSites, withRequest, withMessage}
+use Rattle.table.specs.Places.{messageAt, markAt, verdictAt}
 use Rattle.table.specs.declared.data.Message.{Message}
 use Rattle.table.specs.declared.data.Table.{Table}
-use Rattle.vote.specs.Data.{isOk, isOther, isOpen, noHead, noVote, voteAt, blankRequest, requestOf, withLast, withUp, headsFrom}
-use Rattle.vote.specs.Notes.{siteOf}
-use Rattle.vote.specs.Numbers.{votesFrom, notesFrom, verdictFrom}
+use Rattle.vote.specs.Data.{isOk, isOther, isOpen, voteAt, blankRequest}
+use Rattle.vote.specs.Numbers.{votesFrom}
 use Rattle.vote.specs.declared.data.Site.{Site}
 use Rattle.vote.specs.declared.data.Vote.{Vote}
 use Rattle.walk.proofs.TakenApart.{parts-set, length-row}
-use Rattle.walk.specs.Hearing.{takenUp, received}
-use Rattle.walk.specs.Parts.{requestsFrom, withRow, storedRow}
+use Rattle.walk.specs.Parts.{withRow, storedRow}
 use Rattle.walk.specs.Walking as walking
-use Rattle.walk.specs.Walking.{accepts, rejects, left}
+use Rattle.walk.specs.Walking.{accepts, rejects}
 use Rattle.walk.specs.declared.walking.Settled as code
-use Rattle.steps.specs.Answers.{Done, steppedAs, refusedAs}
-use Rattle.steps.specs.Numbers.{noSuchSite, freePlace, freeMessage, placeOf, cannotTell, noMessageAt, cannotRetire, beginNumber, tellNumber, deliverNumber, dropNumber, downNumber, upNumber, retireNumber, readNumber}
+use Rattle.steps.specs.Answers.{Done, steppedAs}
+use Rattle.steps.specs.Numbers.{cannotTell, noMessageAt, cannotRetire, tellNumber, dropNumber, downNumber, upNumber, retireNumber, readNumber}
 use Rattle.steps.specs.Opened.{SiteRows, RequestRows, MessageRows, tableFrom, siteRows, requestRows, messageRows, LongRequests, LongMessages}
-use Rattle.steps.specs.Steps.{unlessRefused, entered, begun, told, delivered, dropped, putUp, retired, readings}
+use Rattle.steps.specs.Steps.{unlessRefused, told, dropped, putUp, retired, readings}
 use Rattle.steps.specs.declared.answer.Stepped.{Stepped}
-use Rattle.steps.proofs.Allowed.{passed, site-index, free-place, free-message, message-there, may-begin, may-tell, may-deliver, may-drop, may-down, may-up, may-read, may-retire, named-place, MayTell, MayBegin, MayRetire}
-use Rattle.steps.proofs.Rows.{site-at, free-place-of, place-of, message-at, free-message-of}
+use Rattle.steps.proofs.Allowed.{passed, site-index, free-message, message-there, may-tell, may-drop, may-down, may-up, may-read, may-retire, named-place, MayTell}
+use Rattle.steps.proofs.Rows.{site-at, place-of, message-at, free-message-of}
 
 -- no item of the empty set is stored
 stored-none : {A : Type 0} (d : A) (l : List A) → listed 24 (λ i. cond (member 0 i) (getD l i d) d) ≡ replicate 24 d

@@ -27,7 +27,7 @@ use Rattle.vote.specs.Notes.{siteOf}
 use Rattle.vote.specs.Numbers.{notesFrom, verdictFrom}
 use Rattle.vote.specs.declared.data.Site.{Site}
 use Rattle.vote.specs.declared.data.Verdict.{Verdict}
-use Rattle.walk.proofs.TakenApart.{parts-set, length-row}
+use Rattle.walk.proofs.TakenApart.{parts-set}
 use Rattle.walk.specs.Hearing.{takenUp, received}
 use Rattle.walk.specs.Parts.{requestsFrom, withRow, storedRow}
 use Rattle.walk.specs.Walking as walking

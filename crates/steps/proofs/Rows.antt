@@ -1,21 +1,19 @@
 -- The table of some rows: what stands where, by what the rows say of it.
 use Prim.Native.Nat.{ℕ, _<_}
-use mathlib.Core.Bool.{Bool, not}
-use mathlib.Core.List.{List, []}
-use mathlib.Core.Path.{_≡_, refl, sym, _∙_}
+use mathlib.Core.Bool.{not}
+use mathlib.Core.List.{[]}
+use mathlib.Core.Path.{_≡_, sym, _∙_}
 use lib.Dec.{eqb}
 use lib.IntN.{pos}
 use lib.ListN.{getD}
 use Rattle.kit.proofs.Listings.{listed-at}
 use Rattle.kit.proofs.Ranges.{first-same}
-use Rattle.kit.specs.Range.{first}
 use Rattle.plans.proofs.Posting.{message-there, free-message-is}
 use Rattle.plans.proofs.Opening.{site-there}
 use Rattle.plans.specs.Letters.{isLetter, letterFrom, freeSet}
 use Rattle.plans.specs.Opened.{siteFrom}
 use Rattle.plans.specs.Pieces.{freeIn, placeIn, freeMessageIn}
 use Rattle.table.specs.Places.{siteAt, messageAt, placeAt}
-use Rattle.table.specs.declared.data.Table.{Table}
 use Rattle.vote.specs.Data.{noHead, noRequest, headAt, headsFrom, requestOf}
 use Rattle.walk.specs.Parts.{rowAt, requestsFrom}
 use Rattle.steps.specs.Numbers.{freePlace, freeMessage, placeOf}

@@ -23,7 +23,6 @@ use Rattle.plans.specs.Answers.{refusal}
 use Rattle.plans.specs.declared.answer.Answer.{Answer}
 use Rattle.record.specs.Records.{isCut, recordOf}
 use Rattle.record.specs.declared.Record.{Record}
-use Rattle.record.specs.declared.Step.{Step}
 use Rattle.record.proofs.Laws.{next-whole, whole-next, next-inside}
 use Rattle.record.proofs.Frames.{cut-header}
 use Rattle.table.specs.Sound.{soundTable}

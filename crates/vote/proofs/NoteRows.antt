@@ -137,10 +137,6 @@ module _ (row queue : List ℕ) (n : ℕ) (l : length row ≡ 16) where
   pub votes-said : (p : ℕ) (m : Mark) {a : List ℕ} → a ≡ markedRow row p m → votesFrom a ≡ markPut (votesFrom row) p m
   votes-said p m e = rw e (votes-marked row p l m)
 
-  pub notes-marked : (p : ℕ) (m : Mark) {a : List ℕ} → a ≡ markedRow row p m → notesFrom a queue n ≡ notesMarked (notesFrom row queue n) p m
-  unfolding notesMarked
-  notes-marked p m e = rw (e, votes-marked row p l m)
-
   pub notes-deferred
       : (p : ℕ) {a b : List ℕ} {m : ℕ} → a ≡ markedRow row p mark.Deferred → b ≡ queueJoined queue n p → m ≡ countJoined n
       → notesFrom a b m ≡ notesDeferred (notesFrom row queue n) p

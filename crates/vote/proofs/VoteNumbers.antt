@@ -64,10 +64,6 @@ pub length-votes : (row : List ℕ) → length (votesFrom row) ≡ 16
 unfolding votesFrom
 length-votes row = length-listed 16 (λ p. voteFrom (getD row p 0))
 
-pub length-numbers : (votes : List Vote) → length (numbersOf votes) ≡ 16
-unfolding numbersOf
-length-numbers votes = length-listed 16 (λ p. voteNumber (voteAt votes p))
-
 -- what stands at a place of the 16
 pub votes-at : (row : List ℕ) (p : ℕ) → p < 16 → voteAt (votesFrom row) p ≡ voteFrom (getD row p 0)
 unfolding votesFrom
@@ -92,9 +88,6 @@ votes-put row p x v l e =
     (ap voteFrom (getD-set-same row p x 0 (omega arith)) ∙ e h)
     (λ i ne. ap voteFrom (getD-set-other row p i x 0 ne)))
     (λ h. ap votesFrom (set-out row p x (omega arith)) ∙ sym (set-out (votesFrom row) p v (omega (arith, length-votes row))))
-
-pub votes-set : (row : List ℕ) (p : ℕ) (v : Vote) → length row ≡ 16 → p < 16 → votesFrom (set row p (voteNumber v)) ≡ set (votesFrom row) p v
-votes-set row p v l h = votes-put row p (voteNumber v) v l (λ i. vote-back v)
 
 -- ---- a mark, or a verdict, put into a number
 

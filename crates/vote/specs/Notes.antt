@@ -1,7 +1,7 @@
 -- What a site has noted, and a site put together again of its parts.
 use Prim.Native.Nat.{ℕ, _-_}
 use mathlib.Core.Bool.{Bool, cond}
-use mathlib.Core.List.{List, []}
+use mathlib.Core.List.{List}
 use lib.Dec.{eqb, ltb}
 use lib.IntN.{ℤ}
 use lib.ListN.{set}
@@ -23,10 +23,6 @@ pub record Notes : Type 0 where
   pub queue : List ℕ
   pub waiting : ℕ
 
--- the notes of a site
-abbrev pub notesOf : Site → Notes
-notesOf s = record { votes = s .votes; queue = s .queue; waiting = s .waiting }
-
 -- a site put together: whether it is up, its last t, its copy, its notes, the voters that it knows
 abbrev pub siteOf : Bool → ℕ → List ℕ → List ℤ → Notes → List Bool → List Bool → Site
 siteOf up last stamps values k oks others = record {
@@ -40,10 +36,6 @@ siteOf up last stamps values k oks others = record {
   oks = oks;
   others = others;
 }
-
--- no notes
-abbrev pub noNotes : Notes
-noNotes = record { votes = []; queue = []; waiting = 0 }
 
 -- ---- a vote, and a deferral
 
