@@ -1,7 +1,7 @@
 -- Demand 3: every night keeps its promise.
 use mathlib.Core.Path.{_≡_, refl, sym, ap, _∙_, subst}
 use mathlib.Core.Bool.{Bool, true, false, _&&_, cond}
-use mathlib.Core.List.{List, [], _∷_, _++_, List·Memᴰ·append-cases}
+use mathlib.Core.List.{List, [], _∷_, _++_, List·Memᴰ·append-cases, Memᴰ·append-right}
 use mathlib.Core.Logic.{_⊎_, inl, inr, ⊎-elim}
 use Prim.Native.Nat.{ℕ, _-_, _^_, _≤_, _<_}
 use native.Mathlib.Omega.{arith}
@@ -11,12 +11,14 @@ use lib.IntN.{ℤ, pos}
 use lib.ListN.{length, getD, List·getD-eq-default}
 use Rattle.kit.specs.Lists.{_among_}
 use Rattle.kit.proofs.Bools.{of-cond, by-test, by-eq, by-lt, both-true, and-left, and-right}
-use Rattle.kit.proofs.Members.{in-none, not-front}
+use Rattle.kit.proofs.Members.{in-none}
 use Rattle.ledger.specs.Ledger.{Reading, accept, Request as LedgerRequest}
 use Rattle.ledger.specs.Promise.{Newest as LedgerNewest, unchanged, changed-by}
 use Rattle.ledger.specs.View.{Goes, Tied}
 use Rattle.ledger.proofs.Link.{tied-goes}
+use Rattle.ledger.proofs.Newest.{positive}
 use Rattle.ledger.proofs.Night.{promised}
+use Rattle.ledger.proofs.Safety.{accept-begun, proper}
 use Rattle.record.specs.declared.Step.{Step}
 use Rattle.sets.specs.Sets.{member, ofItems}
 use Rattle.sets.proofs.Members.{items-of}
@@ -26,9 +28,9 @@ use Rattle.table.specs.Meaning.{ShapedTable, Sound}
 use Rattle.table.specs.Places.{siteAt, messageAt, placeAt}
 use Rattle.table.specs.Sound.{soundTable}
 use Rattle.table.specs.declared.data.Table.{Table}
-use Rattle.table.proofs.FreshSound.{fresh-means, fresh-shaped}
+use Rattle.table.proofs.FreshSound.{place-fresh, fresh-means, fresh-shaped}
 use Rattle.table.proofs.Meaning.{means, meant}
-use Rattle.vote.specs.Data.{headOf, noRequest, requestAt}
+use Rattle.vote.specs.Data.{headOf, noRequest, blankRequest}
 use Rattle.vote.specs.Requests.{covers, concurrent}
 use Rattle.vote.specs.declared.data.Request.{Request}
 use Rattle.vote.specs.declared.data.Verdict.{Verdict}
@@ -43,7 +45,8 @@ use Rattle.tied.proofs.Tables.{fresh-tied}
 use Rattle.tied.proofs.Words.{covers-means, concurrent-means, has-below, has-member, has-of, place-items}
 use Rattle.demand.specs.Nights.{Event, began, voted, ruled, History, allSaid, inBegin, inDeliver, happened, Night, fresh, after}
 use Rattle.demand.specs.Promises.{AcceptedAt, RejectedAt, Accepted, Newest, blank, reading, Promise}
-use Rattle.demand.proofs.Histories.{ledgerOf, ledger-append, accept-from, accept-in, reject-in, said-of}
+use Rattle.demand.proofs.Histories.{ledgerOf, ledger-append, accept-from, accept-in, reject-in}
+use Rattle.demand.proofs.Names.{Begun, one-begun, begun-next, ruled-held}
 use Rattle.demand.proofs.Steps.{advanced-goes}
 
 -- ---- a sound table holds no item above 23 in any base set
@@ -68,16 +71,31 @@ pub record State (n : ℕ) (t : Table) (h : History) : Type 0 where
   pub count : t .count ≡ n
   pub tied : Tied n (pos 0) (viewOf t) (ledgerOf h)
   pub items : (s : ℕ) (r : Request) (d : Verdict) → ruled s r d among h → ofItems (r .base) ≡ true
+  pub begun : Begun (t .requests) h
+  pub accepted : (s : ℕ) (r : Request) → AcceptedAt h s r → began r among h
 
 fresh-count : (n : ℕ) → blankTable n .count ≡ n
 unfolding blankTable
 fresh-count n = refl
 
+fresh-free : (n p : ℕ) → placeAt (blankTable n) p .stamp ≡ 0
+unfolding blankRequest
+fresh-free n p =
+    by-lt p 16 (λ h. ap (λ (r : Request). r .stamp) (place-fresh n p h))
+    (λ h. let l : length (blankTable n .requests) ≤ p = rw (fresh-shaped n .requests) h in ap (λ (r : Request). r .stamp) (List·getD-eq-default (blankTable n .requests) noRequest l))
+
 fresh-state : (n : ℕ) → 1 ≤ n → n ≤ 7 → State n (freshFor n .table) []
 unfolding freshFor ledgerOf
 fresh-state n low high =
     rw (le-leb 1 n low, le-leb n 7 high)
-    (record { well = record { sound = fresh-means n low high; shaped = fresh-shaped n }; count = fresh-count n; tied = fresh-tied n high; items = λ s r d m. in-none m })
+    (record {
+      well = record { sound = fresh-means n low high; shaped = fresh-shaped n };
+      count = fresh-count n;
+      tied = fresh-tied n high;
+      items = λ s r d m. in-none m;
+      begun = λ p used. absurd (used (fresh-free n p));
+      accepted = λ s r m. in-none m;
+    })
 
 -- no step changes the number of sites
 same-count : (t : Table) (a : Step) → advanced t a .table .count ≡ t .count
@@ -99,39 +117,27 @@ same-count t a =
     either : (number : ℕ) (d : Done) → d .table .count ≡ t .count → Same (unlessRefused number d t)
     either number d e = of-cond Same (eqb number 0) (λ z. e) (λ z. refl)
 
--- no verdict of a step is on a request with an item above 23
-happened-items : (t : Table) (a : Step) → Well t → (s : ℕ) (r : Request) (d : Verdict)
-    → ruled s r d among cond (eqb (a .code) 1) (inBegin t a) (cond (eqb (a .code) 3) (inDeliver t a) []) → ofItems (r .base) ≡ true
-unfolding inBegin inDeliver entered begun
-happened-items t a w s r d =
-    of-cond Items (eqb (a .code) 1)
-    (λ e. of-cond Items (eqb (beginNumber t a) 0)
-    (λ z m. ⊎-elim
-    (λ x. let y = said-of (a .site - 1) (entered t a .requests) (begun t a .log) s r d x in
-    rw (y .1) (all-items (begun t a .table) (begun-well t a w (eqb-true (beginNumber t a) 0 z) .shaped) (begun-well t a w (eqb-true (beginNumber t a) 0 z) .sound) (y .0)))
-    (λ x. in-none (not-front (λ p. cc) x))
-    (List·Memᴰ·append-cases (allSaid (a .site - 1) (entered t a .requests) (begun t a .log)) m))
-    (λ z m. in-none m))
-    (λ e. of-cond Items (eqb (a .code) 3)
-    (λ f. of-cond Items (eqb (deliverNumber t a) 0)
-    (λ z m. let y = said-of (messageAt t (a .place) .to) (t .requests) (delivered t a .log) s r d m in rw (y .1) (all-items t (w .shaped) (w .sound) (y .0)))
-    (λ z m. in-none m))
-    (λ f m. in-none m))
-  where
-    Items : History → Type 0
-    Items h = ruled s r d among h → ofItems (r .base) ≡ true
-
 next-state : (n : ℕ) (t : Table) (h : History) (a : Step) → a .update < 2 ^ 32 → State n t h → State n (stepped t a .table) (happened t a ++ h)
 unfolding stepped happened
 next-state n t h a small x =
     let sound : soundTable t ≡ true = meant t (x .well .sound) in
     let new : History = cond (eqb (a .code) 1) (inBegin t a) (cond (eqb (a .code) 3) (inDeliver t a) []) in
+    let well : Well (advanced t a .table) = advanced-well t a (x .well) in
+    let tied : Tied n (pos 0) (viewOf (advanced t a .table)) (ledgerOf (new ++ h)) =
+    rw (ledger-append new h) (tied-goes (subst (λ (m : ℕ). Goes m (viewOf t) (viewOf (advanced t a .table)) (ledgerOf new)) (x .count) (advanced-goes t a (x .well) small)) (x .tied)) in
+    let begun : Begun (advanced t a .table .requests) (new ++ h) = begun-next t a h (x .begun) in
     rw sound
     (record {
-      well = advanced-well t a (x .well);
+      well = well;
       count = same-count t a ∙ x .count;
-      tied = rw (ledger-append new h) (tied-goes (subst (λ (m : ℕ). Goes m (viewOf t) (viewOf (advanced t a .table)) (ledgerOf new)) (x .count) (advanced-goes t a (x .well) small)) (x .tied));
-      items = λ s r d m. ⊎-elim (λ y. happened-items t a (x .well) s r d y) (λ y. x .items s r d y) (List·Memᴰ·append-cases new m);
+      tied = tied;
+      items = λ s r d m. ⊎-elim (λ y. let z = ruled-held t a s r d y in rw (z .1) (all-items (advanced t a .table) (well .shaped) (well .sound) (z .0))) (x .items s r d) (List·Memᴰ·append-cases new m);
+      begun = begun;
+      accepted = λ s r m.
+          ⊎-elim (λ y. let z = ruled-held t a s r verdict.Accepted y in
+          let used : r .stamp ≡ 0 → ⊥ = λ e. let k = positive (proper (tied .valid) (accept-begun (tied .valid) (accept-in (new ++ h) s r m))) in omega (arith, k) in
+          rw (z .1) (begun (z .0) (rw (z .1) at used)))
+          (λ y. Memᴰ·append-right new (x .accepted s r y)) (List·Memᴰ·append-cases new m);
     })
 
 -- after any steps from a fresh table
@@ -160,7 +166,7 @@ module _ {n : ℕ} {t : Table} {h : History} (x : State n t h) where
       record {
         agreed = λ r s u a b. p .agreed (requestOf r) s u (accept-in h s r a) (reject-in h u r b);
         exclusive = λ a b ne c d e f g.
-            p .exclusive (requestOf a) (requestOf b) (λ z. ne (ap (λ (k : LedgerRequest ℤ). k .stamp) z))
+            p .exclusive (requestOf a) (requestOf b) (λ z. ne (one-begun h (x .tied .valid) (x .accepted (f .0) a (f .1)) (x .accepted (g .0) b (g .1)) (ap (λ (k : LedgerRequest ℤ). k .stamp) z)))
             (covers-means a b (x .items (g .0) b verdict.Accepted (g .1)) c) (covers-means b a (x .items (f .0) a verdict.Accepted (f .1)) d)
             (concurrent-means a b e) (f .0, accept-in h (f .0) a (f .1)) (g .0, accept-in h (g .0) b (g .1));
         copies = λ s i l k. newest-of s i _ k (p .copies s i (rw (← x .count) l));

@@ -37,8 +37,8 @@ pub record Promise (t : Table) (h : History) : Type 0 where
   -- "No request is ever accepted at one site and rejected at any."
   pub agreed : (r : Request) (s u : ℕ) → AcceptedAt h s r → RejectedAt h u r → ⊥
   -- "Of two requests that each change something the other was based on, and that saw equal stamps wherever their bases meet, at most one
-  -- is ever accepted." A stamp is a request's name.
-  pub exclusive : (a b : Request) → (a .stamp ≡ b .stamp → ⊥) → covers (headOf a) (headOf b) ≡ true → covers (headOf b) (headOf a) ≡ true
+  -- is ever accepted."
+  pub exclusive : (a b : Request) → (a ≡ b → ⊥) → covers (headOf a) (headOf b) ≡ true → covers (headOf b) (headOf a) ≡ true
       → concurrent a b ≡ true → Accepted h a → Accepted h b → ⊥
   -- "Each site's copy of each item is the reading with the largest stamp among the requests changing that item that the site has accepted,
   -- or blank if there are none."
