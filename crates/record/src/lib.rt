@@ -3,6 +3,7 @@
 mod body;
 
 ghost use mathlib.Core.Bool.{cond};
+ghost use mathlib.Core.List.{[]};
 ghost use mathlib.Core.Path.{_≡_};
 ghost use lib.Dec.{eqb};
 ghost use Rattle.record.specs.Bodies.{blankStep};
@@ -98,6 +99,13 @@ fn no_step(number: u8, next: usize) -> Brief
         base: 0,
         update: 0,
     }
+}
+
+// What is read where no bytes are left: a cut record.
+pub fn no_record() -> Brief
+    ensures { λ r. ⌜ r ≡ briefOf (recordOf []) ⌝ }
+{
+    no_step(17, 0)
 }
 
 // A complete record, by its code: how many bytes its body must have, and its step.

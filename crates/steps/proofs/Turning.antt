@@ -1,14 +1,12 @@
 -- A run over records, turn after turn: what the loop holds between two of them.
 use Prim.Native.Nat.{ℕ, _+_, _-_, _≤_, _<_}
-use mathlib.Core.Bool.{Bool, false, true, _||_}
-use mathlib.Core.List.{List}
+use mathlib.Core.Bool.{Bool, false, true, cond}
+use mathlib.Core.List.{List, []}
 use mathlib.Core.Path.{_≡_, refl, sym, ap, _∙_}
 use native.Mathlib.Omega.{arith}
-use borrow.Author.Tests.{eqb-true, eqb-false}
-use lib.Dec.{eqb}
 use lib.IntN.{ℤ}
 use lib.ListN.{length, take, drop}
-use Rattle.kit.proofs.Bools.{by-test, or-left, or-right}
+use Rattle.kit.proofs.Bools.{by-test}
 use Rattle.kit.specs.Lists.{put, placed}
 use Rattle.lines.proofs.Counting.{counted-start, length-start, counted-on, length-on}
 use Rattle.lines.specs.Counts.{counted, countedDigits, countedLength, digitsOn, lengthOn}
@@ -16,6 +14,8 @@ use Rattle.lines.specs.Lines.{decimalOf, fitted}
 use Rattle.plans.specs.Answers.{refusal}
 use Rattle.plans.specs.Letters.{freeSet}
 use Rattle.plans.specs.declared.answer.Answer.{Answer}
+use Rattle.record.proofs.Frames.{cut-header}
+use Rattle.record.proofs.Laws.{next-cut}
 use Rattle.record.specs.Records.{recordOf, briefOf, stepFrom}
 use Rattle.record.specs.declared.Brief.{Brief}
 use Rattle.record.specs.declared.Record.{Record}
@@ -56,32 +56,41 @@ module _ {t₀ : Table} {nth₀ : ℕ} {s out₀ : List ℕ} {end room : ℕ} wh
           (z ≡ ranAs (Whole t₀ nth₀ s out₀))
           × ((out ≡ put out₀ 0 (Whole t₀ nth₀ s out₀ .lines)) × ((z .taken ≤ length s) × (z .written ≤ length out₀)))
 
-      -- the record that the bytes from here on start with
-      abbrev Next : Record
-      Next = recordOf (take (end - at) (drop at s))
+      -- the bytes from here on, and the record that they start with
+      abbrev Ahead : List ℕ
+      Ahead = take (end - at) (drop at s)
 
-      module _ {r : Brief} (hr : r ≡ briefOf Next) {b : Bool} (e : b ≡ (isFull (room - to) nth || eqb (r .next) 0)) where
-        size : r .next ≡ Next .next
+      abbrev Next : Record
+      Next = recordOf Ahead
+
+      -- left unread where the run is full
+      module _ {r : Brief} (hr : r ≡ briefOf (recordOf (cond (isFull (room - to) nth) [] Ahead))) where
+        unread : isFull (room - to) nth ≡ true → r .next ≡ 0
         unfolding briefOf
-        size = ap (λ (x : Brief). x .next) hr
+        unread e = let h : r ≡ briefOf (recordOf []) = rw e at hr in ap (λ (x : Brief). x .next) h ∙ next-cut [] (cut-header [] (omega arith))
+
+        was-read : isFull (room - to) nth ≡ false → r ≡ briefOf Next
+        was-read e = rw e at hr
+
+        size : isFull (room - to) nth ≡ false → r .next ≡ Next .next
+        unfolding briefOf
+        size e = ap (λ (x : Brief). x .next) (was-read e)
 
         -- the run ends here
-        pub turning-over : b ≡ true → {u : Table} → u ≡ t → {z : Ran} → z ≡ stoppedAt at to nth u → Promised z
-        turning-over f hu h =
-            by-test (isFull (room - to) nth) (λ y. rw (h, hu) (going-full (g .going) y))
-            (λ y. rw (h, hu) (going-cut (g .going) (sym size ∙ eqb-true (r .next) 0 (rw y at (sym e ∙ f)))))
+        pub turning-over : r .next ≡ 0 → {u : Table} → u ≡ t → {z : Ran} → z ≡ stoppedAt at to nth u → Promised z
+        turning-over f hu h = by-test (isFull (room - to) nth) (λ y. rw (h, hu) (going-full (g .going) y)) (λ y. rw (h, hu) (going-cut (g .going) (sym (size y) ∙ f)))
 
         -- or goes on with the record
-        module _ (f : b ≡ false) where
+        module _ (turning-some : r .next ≡ 0 → ⊥) where
           goes-on : isFull (room - to) nth ≡ false
-          goes-on = or-left (isFull (room - to) nth) (eqb (r .next) 0) (sym e ∙ f)
+          goes-on = by-test (isFull (room - to) nth) (λ y. absurd (turning-some (unread y))) (λ y. y)
 
-          pub turning-some : r .next ≡ 0 → ⊥
-          turning-some = eqb-false (r .next) 0 (or-right (isFull (room - to) nth) (eqb (r .next) 0) (sym e ∙ f))
+          is-next : r ≡ briefOf Next
+          is-next = was-read goes-on
 
           -- there is room for its line, and it ends inside the input
           pub turning-faces : Facing (Whole t₀ nth₀ s out₀) s out₀ end room t Next out (at + r .next) to nth
-          turning-faces = rw size (going-read (g .going) Next goes-on refl (λ z. turning-some (size ∙ z)))
+          turning-faces = rw (size goes-on) (going-read (g .going) Next goes-on refl (λ z. turning-some (size goes-on ∙ z)))
 
           -- there is room for its line, and a number for the record behind
           pub turning-room : to + 89 ≤ length out
@@ -94,13 +103,13 @@ module _ {t₀ : Table} {nth₀ : ℕ} {s out₀ : List ℕ} {end room : ℕ} wh
           pub turning-refused : (r .number ≡ 0 → ⊥) → {w : Answer} → w ≡ refusal (r .number) → record { answer = w; table = t } ≡ answeredOn t Next
           unfolding briefOf
           turning-refused n h =
-              let e : r .number ≡ Next .number = ap (λ (x : Brief). x .number) hr in
+              let e : r .number ≡ Next .number = ap (λ (x : Brief). x .number) is-next in
               answered-refused t Next (λ z. n (e ∙ z)) (h ∙ ap refusal e)
 
           pub turning-stepped
               : r .number ≡ 0 → {stamps : List ℕ} {values : List ℤ} → (r .code ≡ 1 → (stamps ≡ Next .step .stamps) × (values ≡ Next .step .values))
               → {z : Stepped} → z ≡ advanced t (stepFrom r stamps values) → z ≡ answeredOn t Next
-          turning-stepped n {stamps} {values} arrays h = answered-step t (recordFrom r stamps values) n h ∙ answered-brief t Next hr arrays
+          turning-stepped n {stamps} {values} arrays h = answered-step t (recordFrom r stamps values) n h ∙ answered-brief t Next is-next arrays
 
           -- answered w, which leaves the table u, and its line written
           module _

@@ -1,12 +1,13 @@
 // Records answered one after the other on a table that is sound, and that is taken apart meanwhile.
 ghost use mathlib.Core.Path.{_≡_};
-ghost use mathlib.Core.Bool.{Bool, false, _||_};
-ghost use lib.Dec.{eqb};
+ghost use mathlib.Core.Bool.{cond};
+ghost use mathlib.Core.List.{[]};
 ghost use Prim.Native.Nat.{_+_, _≤_};
 ghost use lib.ListN.{length};
 ghost use Rattle.kit.specs.Lists.{put, placed};
 ghost use Rattle.lines.specs.Counts.{counted};
 ghost use Rattle.lines.specs.Lines.{decimalOf, fitted};
+ghost use Rattle.record.specs.Records.{recordOf, briefOf};
 ghost use Rattle.steps.specs.Night.{lineFor, isFull, partFrom, ranAs, stoppedAt};
 ghost use Rattle.steps.specs.Opened.{tableFrom, siteRows, requestRows, messageRows};
 use crate::acting::take_step;
@@ -31,6 +32,8 @@ use plans::opened::ups_of;
 use plans::opened::values_of;
 use plans::opened::votes_of;
 use plans::opened::waitings_of;
+use record::Brief;
+use record::no_record;
 use record::read_brief;
 use record::read_numbers;
 use table::data::Table;
@@ -58,14 +61,14 @@ fn is_full(room: usize, nth: u64) -> bool
     18446744073709551615 <= nth
 }
 
-// Whether a run ends here: there is no room for another line, no number for another record, or no whole record, whose size is 0 then.
-fn is_over(room: usize, nth: u64, size: usize) -> bool
-    ensures { λ r. ⌜ r ≡ (isFull room nth || eqb size 0) ⌝ }
+// The record that the bytes start with; where there is no room for its line, or no number for it, it is left unread.
+fn read_next(room: usize, nth: u64, bytes: &[u8]) -> Brief
+    ensures { λ r. ⌜ r ≡ briefOf (recordOf (cond (isFull room nth) [] (now (bytes .entry)))) ⌝ }
 {
     if is_full(room, nth) {
-        return true;
+        return no_record();
     }
-    size == 0
+    read_brief(bytes)
 }
 
 // The line of an answer, written at a place; its length. The record number is also there in its digits.
@@ -194,9 +197,9 @@ pub(crate) fn answer_all(t: Table, nth: u64, input: &[u8], output: &mut [u8]) ->
     let mut to: usize = 0;
     let mut next = nth;
     loop {
-        let r = read_brief(&input[at..end]);
+        let r = read_next(room - to, next, &input[at..end]);
         let size = r.next;
-        if is_over(room - to, next, size) {
+        if size == 0 {
             return stop(
                 at,
                 to,

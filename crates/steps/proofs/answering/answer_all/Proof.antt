@@ -14,7 +14,7 @@ use Rattle.steps.specs.Night.{answeredOn, partFrom}
 use Rattle.steps.specs.Opened.{tableFrom, siteRows, requestRows, messageRows, LongRows}
 use Rattle.steps.proofs.Opening.{opening}
 use Rattle.steps.proofs.Running.{Going}
-use Rattle.steps.proofs.Turning.{Turning, Replied, turning-start, turning-over, turning-some, turning-room, turning-number, turning-refused, turning-stepped, turning-wrote, turning-on, digits-start, replied-there}
+use Rattle.steps.proofs.Turning.{Turning, Replied, turning-start, turning-over, turning-room, turning-number, turning-refused, turning-stepped, turning-wrote, turning-on, digits-start, replied-there}
 use Rattle.steps.proofs.answering.answer_all.Statement.{statement}
 use Rattle.steps.proofs.answering.answer_all.Tie as tie
 
@@ -80,21 +80,21 @@ all-in c = let g = c .loop .inv .going in omega (arith, g .all)
 -- the run ends here
 returns : tie.Need-returns Inv-loop μ-loop
 returns c =
-    let l = c .before .before .before .before .before .before in
-    turning-over (l .loop .inv) (c .before .before .before .before .read-brief .ensures) (c .before .before .before .is-over .ensures) (c .before .before .if1 .taken) (c .before .table-from .ensures) (c .stop .ensures)
+    let l = c .before .before .before .before .before in
+    turning-over (l .loop .inv) (c .before .before .before .read-next .ensures) (c .before .before .if1 .taken) (c .before .table-from .ensures) (c .stop .ensures)
 
 -- a begin's stamps and values were read
 abbrev loop-of : tie.Joined3 Inv-loop μ-loop → tie.At-loop Inv-loop μ-loop
-loop-of c = c .before .before .before .before .before .before .before .before
+loop-of c = c .before .before .before .before .before .before .before
 
 arrays
-    : (c : tie.Joined3 Inv-loop μ-loop) → c .before .before .before .before .before .before .read-brief .result .code ≡ 1
+    : (c : tie.Joined3 Inv-loop μ-loop) → c .before .before .before .before .before .read-next .result .code ≡ 1
     → (c .if3 .stamps ≡ record-at (loop-of c) .step .stamps) × (c .if3 .values ≡ record-at (loop-of c) .step .values)
 arrays c q = ⊎-elim (λ w. (w .5 ∙ w .4 .ensures .0, w .6 ∙ w .4 .ensures .1)) (λ w. absurd (w .0 .left q)) (c .if3 .came)
 
 -- the record answered: refused when it was read, or its step taken
 abbrev turn-of : tie.Joined2 Inv-loop μ-loop → tie.At-loop Inv-loop μ-loop
-turn-of c = c .before .before .before .before .before .before
+turn-of c = c .before .before .before .before .before
 
 replied
     : (c : tie.Joined2 Inv-loop μ-loop)
@@ -102,15 +102,14 @@ replied
     (c .if2 .free) (c .if2 .answer) (answeredOn (table-at (turn-of c)) (record-at (turn-of c)))
 replied c =
     let g = turn-of c .loop .inv in
-    let r = c .before .before .before .before .read-brief .ensures in
-    let o = c .before .before .before .is-over .ensures in
+    let r = c .before .before .before .read-next .ensures in
     let f = c .before .before .if1 .left in
     ⊎-elim (λ w.
     replied-there
-    (record { is = turning-stepped g r o f (w .0 .taken) (arrays (record { before = record { before = record { before = c .before; if2 = w .0 }; struct-known = w .1 }; if3 = w .2 })) (w .23 .ensures .0); long = w .23 .ensures .1 .1; free-are = w .23 .ensures .1 .0 })
+    (record { is = turning-stepped g r f (w .0 .taken) (arrays (record { before = record { before = record { before = c .before; if2 = w .0 }; struct-known = w .1 }; if3 = w .2 })) (w .23 .ensures .0); long = w .23 .ensures .1 .1; free-are = w .23 .ensures .1 .0 })
     (w .24) (w .25) (w .26) (w .27) (w .28) (w .29) (w .30) (w .31) (w .32) (w .33) (w .34) (w .35) (w .36) (w .37) (w .38) (w .39) (w .40) (w .41) (w .44))
     (λ w.
-    replied-there (record { is = turning-refused g r o f (w .0 .left) (c .before .refuse .ensures); long = g .long; free-are = g .free-are })
+    replied-there (record { is = turning-refused g r f (w .0 .left) (c .before .refuse .ensures); long = g .long; free-are = g .free-are })
     (w .1) (w .2) (w .3) (w .4) (w .5) (w .6) (w .7) (w .8) (w .9) (w .10) (w .11) (w .12) (w .13) (w .14) (w .15) (w .16) (w .17) (w .18) (w .21))
     (c .if2 .came)
 
@@ -119,7 +118,7 @@ write-answer-requires : tie.Need-write-answer-requires Inv-loop μ-loop
 write-answer-requires c κs =
     let j = c .before .before in
     let g = turn-of j .loop .inv in (
-      turning-room g (j .before .before .before .before .read-brief .ensures) (j .before .before .before .is-over .ensures) (j .before .before .if1 .left),
+      turning-room g (j .before .before .before .read-next .ensures) (j .before .before .if1 .left),
       g .figured,
     )
 
@@ -132,11 +131,11 @@ written
     → let j = written-of c in
     let l = turn-of j in
     Going (partFrom (start l .args .t) (start l .args .nth) (start l .args .input .now) (length (start l .args .output .now))) (start l .args .input .now) (start l .args .output .now) (sizes l .before .before .bytes-in .result) (sizes l .bytes-in2 .result)
-    (tableFrom (start l .args .t .count) (siteRows (j .if2 .ups) (j .if2 .lasts) (j .if2 .held-stamps) (j .if2 .held-values) (j .if2 .votes) (j .if2 .queues) (j .if2 .waitings) (j .if2 .oks) (j .if2 .others)) (requestRows (j .if2 .names) (j .if2 .bases) (j .if2 .updates) (j .if2 .based) (j .if2 .news)) (messageRows (j .if2 .letters) (j .if2 .told-oks) (j .if2 .told-others))) (c .write-answer .last .0) (l .loop .at + j .before .before .before .before .read-brief .result .next) (l .loop .to + c .write-answer .result) (l .loop .next + 1)
+    (tableFrom (start l .args .t .count) (siteRows (j .if2 .ups) (j .if2 .lasts) (j .if2 .held-stamps) (j .if2 .held-values) (j .if2 .votes) (j .if2 .queues) (j .if2 .waitings) (j .if2 .oks) (j .if2 .others)) (requestRows (j .if2 .names) (j .if2 .bases) (j .if2 .updates) (j .if2 .based) (j .if2 .news)) (messageRows (j .if2 .letters) (j .if2 .told-oks) (j .if2 .told-others))) (c .write-answer .last .0) (l .loop .at + j .before .before .before .read-next .result .next) (l .loop .to + c .write-answer .result) (l .loop .next + 1)
 written c =
     let j = written-of c in
     let e = c .write-answer .ensures in
-    turning-wrote (turn-of j .loop .inv) (j .before .before .before .before .read-brief .ensures) (j .before .before .before .is-over .ensures) (j .before .before .if1 .left) (replied j .is) (e .0) (e .1 .0) (e .1 .1)
+    turning-wrote (turn-of j .loop .inv) (j .before .before .before .read-next .ensures) (j .before .before .if1 .left) (replied j .is) (e .0) (e .1 .0) (e .1 .1)
 
 add-to : tie.Need-add-to Inv-loop μ-loop
 add-to c = let w = c .before .before in let k = room-fits (sizes (turn-of (written-of w))) in let g = written w in omega (arith, g .ends, g .long, g .free)
@@ -144,7 +143,7 @@ add-to c = let w = c .before .before in let k = room-fits (sizes (turn-of (writt
 add-next : tie.Need-add-next Inv-loop μ-loop
 add-next c =
     let j = written-of (c .before .before) in
-    let k = turning-number (turn-of j .loop .inv) (j .before .before .before .before .read-brief .ensures) (j .before .before .before .is-over .ensures) (j .before .before .if1 .left) in
+    let k = turning-number (turn-of j .loop .inv) (j .before .before .before .read-next .ensures) (j .before .before .if1 .left) in
     omega (arith, k)
 
 -- the next record
@@ -158,14 +157,14 @@ loop-less : tie.Need-loop-less Inv-loop μ-loop
 loop-less c =
     let j = written-of (wrote-of c) in
     let g = written (wrote-of c) in
-    omega (arith, g .inside, g .all, turning-some (turn-of j .loop .inv) (j .before .before .before .before .read-brief .ensures) (j .before .before .before .is-over .ensures) (j .before .before .if1 .left))
+    omega (arith, g .inside, g .all, j .before .before .if1 .left)
 
 loop-again : tie.Need-loop-again Inv-loop μ-loop
 loop-again c =
     let j = written-of (wrote-of c) in
     let e = wrote-of c .write-answer .ensures in
     let y = replied j in
-    turning-on (turn-of j .loop .inv) (j .before .before .before .before .read-brief .ensures) (j .before .before .before .is-over .ensures) (j .before .before .if1 .left) (y .is) (e .0) (e .1 .0) (e .1 .1) (y .long) (y .free-are) (c .before .count-on .ensures .0) (c .before .count-on .ensures .1)
+    turning-on (turn-of j .loop .inv) (j .before .before .before .read-next .ensures) (j .before .before .if1 .left) (y .is) (e .0) (e .1 .0) (e .1 .1) (y .long) (y .free-are) (c .before .count-on .ensures .0) (c .before .count-on .ensures .1)
 
 pub answer-all-spec : {M : Type 1} → statement M
 answer-all-spec =
@@ -196,27 +195,26 @@ answer-all-spec =
     (λ c. search needs)
     (λ c κs. search needs)
     loop-holds
+    (λ c. let g = c .loop .inv .going in omega (arith, g .ends, g .long, g .free))
     inside
     inside
     all-in
     (λ c κs. search needs)
-    (λ c. let g = c .before .before .loop .inv .going in omega (arith, g .ends, g .long, g .free))
     (λ c κs. search needs)
     (λ c κs. search needs)
-    (λ c κs. search needs)
-    (λ c. c .before .before .before .before .before .before .loop .inv .going .long)
+    (λ c. c .before .before .before .before .before .loop .inv .going .long)
     returns
     (λ c κs. search needs)
-    (λ c. inside (c .before .before .before .before .before .before .before .before))
-    (λ c. inside (c .before .before .before .before .before .before .before .before))
-    (λ c. all-in (c .before .before .before .before .before .before .before .before))
+    (λ c. inside (c .before .before .before .before .before .before .before))
+    (λ c. inside (c .before .before .before .before .before .before .before))
+    (λ c. all-in (c .before .before .before .before .before .before .before))
     (λ c κs. search needs)
-    (λ c κs. let l = c .before .before .before .before .before .before .before .before .before .before .before .before .before .before .before .before .before .before .before .before .before .before .before .before .before .before .before .before in (start l .pre, (l .loop .inv .free-are, l .loop .inv .long)))
-    (λ c. sym (c .before .before .before .before .before .before .before .before .loop .inv .eight))
+    (λ c κs. let l = c .before .before .before .before .before .before .before .before .before .before .before .before .before .before .before .before .before .before .before .before .before .before .before .before .before .before .before in (start l .pre, (l .loop .inv .free-are, l .loop .inv .long)))
+    (λ c. sym (c .before .before .before .before .before .before .before .loop .inv .eight))
     write-answer-requires
     add-to
     add-next
-    (λ c. sym (c .before .before .before .before .before .before .before .before .before .before .before .before .loop .inv .eight))
+    (λ c. sym (c .before .before .before .before .before .before .before .before .before .before .before .loop .inv .eight))
     (λ c κs. search needs)
     add-at
     loop-less
