@@ -9,8 +9,8 @@ ghost use Rattle.steps.specs.Night.{lineFor, lastLine, linesFrom, nightOf};
 ghost use Rattle.steps.proofs.Upkeep.{Well};
 ghost use Rattle.house.specs.House.{roomAfter, nightLength, nightPrinted, nightInto};
 use kit::ends_inside;
-use lines::line_length;
-use lines::write_line;
+use lines::refused_length;
+use lines::write_refused;
 use steps::run::run;
 use table::data::Table;
 use table::fresh::fresh;
@@ -71,14 +71,14 @@ fn lines_room() -> [u8; 4096]
 fn refusal_length(nth: u64, number: u8) -> usize
     ensures { λ r. ⌜ r ≡ length (lineFor nth (refusal number)) ⌝ }
 {
-    line_length(nth, number, 0, 0, 0, 0)
+    refused_length(nth, number)
 }
 
 // That line, written at a place where it ends inside the buffer.
 fn write_refusal(output: &mut [u8], at: usize, nth: u64, number: u8)
     ensures { λ _. ⌜ now (output .exit) ≡ placed (now (output .entry)) at (lineFor nth (refusal number)) ⌝ }
 {
-    write_line(output, at, nth, number, 0, 0, 0, 0);
+    write_refused(output, at, nth, number);
 }
 
 // The line of a record that is cut, where any bytes are left: how many bytes it has.

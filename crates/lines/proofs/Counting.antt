@@ -1,27 +1,27 @@
 -- The number of a record kept as digits: from one line to the next they are the digits of the next number, and a line can begin with them.
-use mathlib.Core.Path.{_≡_, sym, ap, ap₂, _∙_}
+use mathlib.Core.Path.{_≡_, refl, sym, ap, ap₂, _∙_}
 use mathlib.Core.Bool.{Bool, true, false, not, cond, _&&_}
 use mathlib.Core.List.{List, [], _∷_, _++_}
 use Prim.Native.Nat.{ℕ, suc, _+_, _-_, _/_, _%_, _^_, _≤_, _<_}
 use native.Mathlib.Omega.{arith}
 use borrow.Author.Tests.{leb-true, le-leb, lt-leb, lt-ltb, le-ltb, ltb-true, not-true, not-false}
 use lib.Dec.{ltb, leb}
-use lib.IntN.{ℤ, natAbs}
+use lib.IntN.{ℤ}
 use lib.Signed.{natAbs-le}
-use lib.ListN.{length, take, getD, set, length-append, length-set}
+use lib.ListN.{length, take, getD, set, length-append, length-set, length-take}
 use lib.Seq.{length-take-le, getD-take, take-set-lt, take-take, set-at, getD-at}
 use mir.Syntax.{w8, w32, w64}
 use mir.Val.{Fits, SFits, toZ, ofZ}
 use mir.Facts.{toZ-ofZ}
-use Rattle.kit.specs.Lists.{put, placed}
-use Rattle.kit.proofs.Bools.{and-left, and-right, by-test, by-lt, cond-yes, cond-no}
-use Rattle.kit.proofs.Puts.{length-put, take-put, placed-in}
+use Rattle.kit.specs.Lists.{put}
+use Rattle.kit.proofs.Bools.{and-left, and-right, by-test, by-lt, of-cond, cond-yes, cond-no}
+use Rattle.kit.proofs.Puts.{length-put, put-put, take-put}
 use Rattle.kit.proofs.Fields.{ends-in, ends-out}
-use Rattle.lines.specs.Lines.{digit, decimalOf, lineOf, fitted, Wrote}
-use Rattle.lines.specs.Counts.{isKept, counted, isKeepable, countedDigits, countedLength, lastKept, digitsOn, lengthOn, lineWith, tailOf, amplePlaced, ampleFitted}
-use Rattle.lines.proofs.Decimals.{decimal-small, decimal-more, length-some, length-le}
-use Rattle.lines.proofs.Writes.{fitted-in}
-use Rattle.lines.proofs.Tails.{put-over, line-with, with-tail, length-with, tail-some, tail-short, with-short}
+use Rattle.lines.specs.Lines.{digit, decimalOf, lineOf, Wrote}
+use Rattle.lines.specs.Counts.{isKept, counted, isKeepable, countedDigits, countedLength, isGrown, oneMore, digitsOn, lengthOn, firstWritten, lineWith, tailOf, amplePlaced, ampleFitted}
+use Rattle.lines.proofs.Decimals.{length-some, length-le}
+use Rattle.lines.proofs.Growing.{more-length, next-number}
+use Rattle.lines.proofs.Tails.{put-over, line-with, with-tail, length-with, tail-some, tail-short}
 
 -- ---- what is kept
 
@@ -57,11 +57,8 @@ module _ (size len : ℕ) where
     pub asked-kept : isKept size len ≡ true
     asked-kept = sym e ∙ not-false r t
 
-    pub asked-some : 1 ≤ len
-    asked-some = kept-some asked-kept
-
-    pub asked-inside : len - 1 < size
-    asked-inside = omega (arith, asked-some, kept-short asked-kept, kept-room asked-kept)
+    pub asked-room : len ≤ size
+    asked-room = omega (arith, kept-short asked-kept, kept-room asked-kept)
 
   pub kept-is : 1 ≤ len → len ≤ 8 → 8 ≤ size → isKept size len ≡ true
   kept-is h l s = sym (kept-fits h l) ∙ le-leb 8 size s
@@ -168,38 +165,6 @@ module _ (digits : List ℕ) (n : ℕ) where
 
 -- ---- the next number
 
--- all digits but the last one: they stay where the last one is below 9
-headOf : ℕ → List ℕ
-headOf n = cond (ltb n 10) [] (decimalOf (n / 10))
-
-head-last : (n : ℕ) → decimalOf n ≡ headOf n ++ (digit (n % 10) ∷ [])
-unfolding headOf
-head-last n =
-    by-lt n 10
-    (λ h. let e : n % 10 ≡ n = omega arith in rw (lt-ltb n 10 h, e) (decimal-small n h))
-    (λ h. rw (le-ltb n 10 h) (decimal-more n h))
-
-head-next : (n : ℕ) → n % 10 < 9 → headOf (n + 1) ≡ headOf n
-unfolding headOf
-head-next n l =
-    by-lt n 10
-    (λ h. rw (lt-ltb n 10 h, lt-ltb (n + 1) 10 (omega arith)))
-    (λ h. let e : (n + 1) / 10 ≡ n / 10 = omega arith in rw (le-ltb n 10 h, le-ltb (n + 1) 10 (omega arith), e))
-
--- where the last digit is below 9, it alone grows
-last-grows : (n k : ℕ) → length (decimalOf n) ≡ suc k → getD (decimalOf n) k 0 < 57 → set (decimalOf n) k (getD (decimalOf n) k 0 + 1) ≡ decimalOf (n + 1)
-last-grows n k e h =
-    let p : List ℕ = headOf n in
-    let b : ℕ = digit (n % 10) in
-    let long : length p ≡ k = omega (arith, ap length (head-last n), length-append p (b ∷ [])) in
-    let last : getD (decimalOf n) k 0 ≡ b = ap (λ (l : List ℕ). getD l k 0) (head-last n) ∙ getD-at p b [] 0 k long in
-    let small : n % 10 < 9 = omega arith in
-    let next : b + 1 ≡ digit ((n + 1) % 10) = omega arith in
-    ap₂ (λ (l : List ℕ) (x : ℕ). set l k (x + 1)) (head-last n) last
-    ∙ set-at p b [] (b + 1) k long
-    ∙ ap₂ (λ (l : List ℕ) (x : ℕ). l ++ (x ∷ [])) (sym (head-next n small)) next
-    ∙ sym (head-last (n + 1))
-
 module _ (digits : List ℕ) (len n : ℕ) where
   module _ (h : isKept (length digits) len ≡ false) where
     on-none-digits : digitsOn digits len n ≡ digits
@@ -211,23 +176,23 @@ module _ (digits : List ℕ) (len n : ℕ) where
     on-none-length = rw h
 
   module _ (h : isKept (length digits) len ≡ true) where
-    module _ (l : lastKept digits len < 57) where
-      on-last-digits : digitsOn digits len n ≡ set digits (len - 1) (lastKept digits len + 1)
+    module _ (g : isGrown len digits ≡ true) where
+      on-grown-digits : digitsOn digits len n ≡ oneMore len digits
       unfolding digitsOn
-      on-last-digits = rw (h, lt-ltb (lastKept digits len) 57 l)
+      on-grown-digits = rw (h, g)
 
-      on-last-length : lengthOn digits len n ≡ len
+      on-grown-length : lengthOn digits len n ≡ len
       unfolding lengthOn
-      on-last-length = rw (h, lt-ltb (lastKept digits len) 57 l)
+      on-grown-length = rw (h, g)
 
-    module _ (l : 57 ≤ lastKept digits len) where
-      on-all-digits : digitsOn digits len n ≡ countedDigits digits n
+    module _ (g : isGrown len digits ≡ false) where
+      on-anew-digits : digitsOn digits len n ≡ countedDigits (oneMore len digits) n
       unfolding digitsOn
-      on-all-digits = rw (h, le-ltb (lastKept digits len) 57 l)
+      on-anew-digits = rw (h, g)
 
-      on-all-length : lengthOn digits len n ≡ countedLength digits n
+      on-anew-length : lengthOn digits len n ≡ countedLength (oneMore len digits) n
       unfolding lengthOn
-      on-all-length = rw (h, le-ltb (lastKept digits len) 57 l)
+      on-anew-length = rw (h, g)
 
   -- the code asked whether digits are kept, r
   module _ (r : Bool) (e : r ≡ isKept (length digits) len) where
@@ -242,26 +207,27 @@ module _ (digits : List ℕ) (len n : ℕ) where
       kept : isKept (length digits) len ≡ true
       kept = asked-kept (length digits) len r e t
 
-      pub grows-digits : lastKept digits len < 57 → set digits (len - 1) (lastKept digits len + 1) ≡ digitsOn digits len n
-      grows-digits l = sym (on-last-digits kept l)
+      -- and whether one grew when one was added, g
+      module _ (g : Bool) (grown : g ≡ isGrown len digits) (more : List ℕ) (added : more ≡ oneMore len digits) where
+        pub grows-digits : g ≡ true → more ≡ digitsOn digits len n
+        grows-digits l = added ∙ sym (on-grown-digits kept (sym grown ∙ l))
 
-      pub grows-length : lastKept digits len < 57 → len ≡ lengthOn digits len n
-      grows-length l = sym (on-last-length kept l)
+        pub grows-length : g ≡ true → len ≡ lengthOn digits len n
+        grows-length l = sym (on-grown-length kept (sym grown ∙ l))
 
-      module _ (l : 57 ≤ lastKept digits len) where
-        pub anew-digits : (after : List ℕ) → after ≡ countedDigits digits n → after ≡ digitsOn digits len n
-        anew-digits after w = w ∙ sym (on-all-digits kept l)
+        pub anew-digits : g ≡ false → (after : List ℕ) → after ≡ countedDigits more n → after ≡ digitsOn digits len n
+        anew-digits l after w = w ∙ ap (λ (d : List ℕ). countedDigits d n) added ∙ sym (on-anew-digits kept (sym grown ∙ l))
 
-        pub anew-length : (m : ℕ) → m ≡ countedLength digits n → m ≡ lengthOn digits len n
-        anew-length m w = w ∙ sym (on-all-length kept l)
+        pub anew-length : g ≡ false → (m : ℕ) → m ≡ countedLength more n → m ≡ lengthOn digits len n
+        anew-length l m w = w ∙ ap (λ (d : List ℕ). countedLength d n) added ∙ sym (on-anew-length kept (sym grown ∙ l))
 
   pub length-on : length (digitsOn digits len n) ≡ length digits
   length-on =
       by-test (isKept (length digits) len)
       (λ h.
-      by-lt (lastKept digits len) 57
-      (λ l. ap length (on-last-digits h l) ∙ length-set digits (len - 1) (lastKept digits len + 1))
-      (λ l. ap length (on-all-digits h l) ∙ length-start digits n))
+      by-test (isGrown len digits)
+      (λ g. ap length (on-grown-digits h g) ∙ more-length len digits)
+      (λ g. ap length (on-anew-digits h g) ∙ length-start (oneMore len digits) n ∙ more-length len digits))
       (λ h. ap length (on-none-digits h))
 
 -- counting on keeps the digits of the next number
@@ -269,25 +235,16 @@ pub counted-on : (digits : List ℕ) (len n : ℕ) → counted digits len n ≡ 
 counted-on digits len n e =
     by-test (isKept (length digits) len)
     (λ h.
-    by-lt (lastKept digits len) 57
-    (λ l.
-    let k : ℕ = len - 1 in
-    let some = kept-some (length digits) len h in
+    by-test (isGrown len digits)
+    (λ g.
     let few = kept-short (length digits) len h in
     let room = kept-room (length digits) len h in
-    let x : ℕ = lastKept digits len + 1 in
-    let f : take len digits ≡ decimalOf n = sym (counted-kept digits len n h) ∙ e in
-    let long : length (decimalOf n) ≡ suc k = ap length (sym f) ∙ length-take-le len digits (omega arith) ∙ (let z : len ≡ suc k = omega arith in z) in
-    let last : getD (decimalOf n) k 0 ≡ lastKept digits len = ap (λ (s : List ℕ). getD s k 0) (sym f) ∙ getD-take len digits k 0 (omega arith) in
-    let kept : isKept (length (set digits k x)) len ≡ true = rw (length-set digits k x) h in
-    ap₂ (λ (d : List ℕ) (m : ℕ). counted d m (n + 1)) (on-last-digits digits len (n + 1) h l) (on-last-length digits len (n + 1) h l)
-    ∙ counted-kept (set digits k x) len (n + 1) kept
-    ∙ take-set-lt len digits k x (omega arith)
-    ∙ ap₂ (λ (s : List ℕ) (y : ℕ). set s k (y + 1)) f (sym last)
-    ∙ last-grows n k long (omega arith))
-    (λ l.
-    ap₂ (λ (d : List ℕ) (m : ℕ). counted d m (n + 1)) (on-all-digits digits len (n + 1) h l) (on-all-length digits len (n + 1) h l)
-    ∙ counted-start digits (n + 1)))
+    ap₂ (λ (d : List ℕ) (m : ℕ). counted d m (n + 1)) (on-grown-digits digits len (n + 1) h g) (on-grown-length digits len (n + 1) h g)
+    ∙ counted-kept (oneMore len digits) len (n + 1) (rw (more-length len digits) h)
+    ∙ next-number len n digits (omega arith) (sym (counted-kept digits len n h) ∙ e) g)
+    (λ g.
+    ap₂ (λ (d : List ℕ) (m : ℕ). counted d m (n + 1)) (on-anew-digits digits len (n + 1) h g) (on-anew-length digits len (n + 1) h g)
+    ∙ counted-start (oneMore len digits) (n + 1)))
     (λ h. ap (λ (m : ℕ). counted (digitsOn digits len (n + 1)) m (n + 1)) (on-none-length digits len (n + 1) h) ∙ no-length (digitsOn digits len (n + 1)) (n + 1))
 
 -- ---- the line that begins with them
@@ -313,109 +270,129 @@ module _ (d : List ℕ) (at : ℕ) (line : List ℕ) where
 
   -- the code asked for room, r
   module _ (r : Bool) (e : r ≡ leb (at + 89) (length d)) (t : not r ≡ true) where
-    pub refused-length : 0 ≡ ampleFitted d at line
-    refused-length = sym (scant-length (ends-out r at 89 (length d) e t))
+    pub no-room-length : 0 ≡ ampleFitted d at line
+    no-room-length = sym (scant-length (ends-out r at 89 (length d) e t))
 
-    pub refused-bytes : d ≡ amplePlaced d at line
-    refused-bytes = sym (scant-bytes (ends-out r at 89 (length d) e t))
+    pub no-room-bytes : d ≡ amplePlaced d at line
+    no-room-bytes = sym (scant-bytes (ends-out r at 89 (length d) e t))
 
--- the digits end inside where 89 bytes do: the code asked for both, r and k
-pub number-room : (at len size room : ℕ) (r k : Bool) → r ≡ leb (at + 89) room → not r ≡ false → k ≡ isKept size len → not k ≡ false → at + len ≤ room
-number-room at len size room r k e t f u = omega (arith, ends-in r at 89 room e t, kept-short size len (asked-kept size len k f u))
+-- ---- the bytes of its first field, and those that are written for it
+
+module _ (digits : List ℕ) (len n : ℕ) where
+  first-kept : isKept (length digits) len ≡ true → firstWritten digits len n ≡ take 8 digits
+  unfolding firstWritten
+  first-kept h = cond-yes (take 8 digits) (decimalOf n) h
+
+  first-none : isKept (length digits) len ≡ false → firstWritten digits len n ≡ decimalOf n
+  unfolding firstWritten
+  first-none h = cond-no (take 8 digits) (decimalOf n) h
+
+  length-kept : isKept (length digits) len ≡ true → length (counted digits len n) ≡ len
+  length-kept h = ap length (counted-kept digits len n h) ∙ length-take-le len digits (omega (arith, kept-short (length digits) len h, kept-room (length digits) len h))
+
+  module _ (h : n < 2 ^ 64) where
+    -- both are at most 20
+    few : (m : ℕ) → (isKept (length digits) len ≡ true → m ≤ 8) → length (cond (isKept (length digits) len) (take m digits) (decimalOf n)) ≤ 20
+    few m f = of-cond (λ (s : List ℕ). length s ≤ 20) (isKept (length digits) len) (λ k. omega (arith, f k, length-take m digits)) (λ k. length-le 19 n (omega arith))
+
+    counted-few : length (counted digits len n) ≤ 20
+    unfolding counted
+    counted-few = few len (kept-short (length digits) len)
+
+    first-few : length (firstWritten digits len n) ≤ 20
+    unfolding firstWritten
+    first-few = few 8 (λ k. omega arith)
+
+    -- a piece of 8 bytes or more, put behind the field, covers the others
+    put-first : (d : List ℕ) (at : ℕ) (f : List ℕ) → at + 20 ≤ length d → 8 ≤ length f
+        → put (put d at (firstWritten digits len n)) (at + length (counted digits len n)) f ≡ put d at (counted digits len n ++ f)
+    put-first d at f room l =
+        by-test (isKept (length digits) len)
+        (λ k.
+        let short = kept-short (length digits) len k in
+        let eight : length (take 8 digits) ≡ 8 = length-take-le 8 digits (kept-room (length digits) len k) in
+        rw (length-kept k, first-kept k, counted-kept digits len n k)
+        (put-over d at len (take 8 digits) f (omega arith) (omega arith) (omega arith) ∙ ap (λ (s : List ℕ). put d at (s ++ f)) (take-take len 8 digits short)))
+        (λ k.
+        let long = ap length (counted-none digits len n k) in
+        rw (first-none k, counted-none digits len n k)
+        (put-put d at (at + length (decimalOf n)) (decimalOf n) f refl (omega (arith, counted-few))))
+
+  -- the code asked whether digits are kept, k
+  module _ (k : Bool) (e : k ≡ isKept (length digits) len) (d : List ℕ) (at : ℕ) (room : at + 20 ≤ length d) where
+    -- none are: the digits of n were written
+    module _ (t : not k ≡ true) where
+      none : isKept (length digits) len ≡ false
+      none = sym e ∙ not-true k t
+
+      pub made-room : Fits w64 n → at + length (decimalOf n) ≤ length d
+      made-room f = omega (arith, length-le 19 n (omega arith))
+
+      module _ (p : ℕ) (d₁ : List ℕ) (w : Wrote d at (decimalOf n) p d₁) where
+        pub made-place : p ≡ at + length (counted digits len n)
+        made-place = w .place ∙ ap (λ (s : List ℕ). at + length s) (sym (counted-none digits len n none))
+
+        pub made-bytes : d₁ ≡ put d at (firstWritten digits len n)
+        made-bytes = w .bytes ∙ ap (put d at) (sym (first-none none))
+
+    -- they are: eight bytes were written
+    module _ (t : not k ≡ false) where
+      some : isKept (length digits) len ≡ true
+      some = asked-kept (length digits) len k e t
+
+      pub eight-room : at + 8 ≤ length d
+      eight-room = omega arith
+
+      pub eight-enough : 8 ≤ length digits
+      eight-enough = kept-room (length digits) len some
+
+      pub number-room : at + len ≤ length d
+      number-room = omega (arith, kept-short (length digits) len some)
+
+      pub number-place : at + len ≡ at + length (counted digits len n)
+      number-place = ap (λ (m : ℕ). at + m) (sym (length-kept some))
+
+      pub eight-bytes : (d₁ : List ℕ) → d₁ ≡ put d at (take 8 digits) → d₁ ≡ put d at (firstWritten digits len n)
+      eight-bytes d₁ v = v ∙ ap (put d at) (sym (first-kept some))
+
+-- ---- the line
 
 module _ (digits : List ℕ) (len n number : ℕ) (first : ℤ) (second accepted rejected : ℕ) where
-  counted-few : n < 2 ^ 64 → length (counted digits len n) ≤ 20
-  counted-few h =
-      by-test (isKept (length digits) len)
-      (λ k.
-      let few = kept-short (length digits) len k in
-      let room = kept-room (length digits) len k in
-      omega (arith, ap length (counted-kept digits len n k), length-take-le len digits (omega arith)))
-      (λ k. omega (arith, ap length (counted-none digits len n k), length-le 19 n (omega arith)))
-
-  -- it has at most 89 bytes, and at least one
-  pub counted-short : n < 2 ^ 64 → number < 2 ^ 8 → natAbs first ≤ 2 ^ 63 → second < 2 ^ 64 → accepted < 2 ^ 32 → rejected < 2 ^ 32
-      → length (lineWith (counted digits len n) number first second accepted rejected) ≤ 89
-  counted-short h = with-short number first second accepted rejected (counted digits len n) (counted-few h)
-
-  pub counted-some : 1 ≤ length (lineWith (counted digits len n) number first second accepted rejected)
-  counted-some = omega (arith, length-with number first second accepted rejected (counted digits len n), tail-some number first second accepted rejected)
-
   -- where the digits are those of n, it is the line of n
   pub counted-line : counted digits len n ≡ decimalOf n → lineWith (counted digits len n) number first second accepted rejected ≡ lineOf n number first second accepted rejected
   counted-line e = ap (λ (s : List ℕ). lineWith s number first second accepted rejected) e ∙ sym (line-with number first second accepted rejected n)
 
-  -- the code found room, r, and asked whether digits are kept, k; it hands on the bits of `first`
-  module _ (d : List ℕ) (at : ℕ) (r : Bool) (e : r ≡ leb (at + 89) (length d)) (t : not r ≡ false) (k : Bool) (f : k ≡ isKept (length digits) len) where
+  -- the code found room, r; it hands on the bits of `first`
+  module _ (d : List ℕ) (at : ℕ) (r : Bool) (e : r ≡ leb (at + 89) (length d)) (t : not r ≡ false) where
     inside : at + 89 ≤ length d
     inside = ends-in r at 89 (length d) e t
 
-    -- none are: the line of n was written
-    module _ (u : not k ≡ true) (fn : Fits w64 n) (f₁ : Fits w8 number) (f₂ : SFits w64 first) (f₃ : Fits w64 second) (f₄ : Fits w32 accepted) (f₅ : Fits w32 rejected) where
-      plain : lineWith (counted digits len n) number first second accepted rejected ≡ lineOf n number (toZ w64 (ofZ w64 first)) second accepted rejected
-      plain = rw (toZ-ofZ f₂) (counted-line (counted-none digits len n (sym f ∙ not-true k u)))
+    pub first-room : at + 20 ≤ length d
+    first-room = omega (arith, inside)
 
-      plain-inside : at + length (lineOf n number (toZ w64 (ofZ w64 first)) second accepted rejected) ≤ length d
-      plain-inside =
-          let short = counted-short (omega arith) (omega arith) (natAbs-le first (f₂ .sfits)) (omega arith) (omega arith) (omega arith) in
-          omega (arith, inside, ap length plain)
+    -- the first field was written, and then the tail over the bytes behind it
+    module _ (p : ℕ) (d₁ : List ℕ) (u : p ≡ at + length (counted digits len n)) (v : d₁ ≡ put d at (firstWritten digits len n)) (f : Fits w64 n) (f₂ : SFits w64 first) where
+      pub tail-room : Fits w8 number → Fits w64 second → Fits w32 accepted → Fits w32 rejected → p + length (tailOf number (toZ w64 (ofZ w64 first)) second accepted rejected) ≤ length d₁
+      tail-room f₁ f₃ f₄ f₅ =
+          let short = tail-short number first second accepted rejected (omega arith) (natAbs-le first (f₂ .sfits)) (omega arith) (omega arith) (omega arith) in
+          let few = counted-few digits len n (omega arith) in
+          let long : length d₁ ≡ length d = ap length v ∙ length-put d at (firstWritten digits len n) (omega (arith, inside, first-few digits len n (omega arith))) in
+          rw (toZ-ofZ f₂) (omega (arith, inside))
 
-      pub plain-length : (q : ℕ) → q ≡ fitted d at (lineOf n number (toZ w64 (ofZ w64 first)) second accepted rejected)
-          → q ≡ ampleFitted d at (lineWith (counted digits len n) number first second accepted rejected)
-      plain-length q w =
-          w ∙ fitted-in d at (lineOf n number (toZ w64 (ofZ w64 first)) second accepted rejected) plain-inside ∙ ap length (sym plain)
-          ∙ sym (ample-length d at (lineWith (counted digits len n) number first second accepted rejected) inside)
+      module _ (q : ℕ) (d₂ : List ℕ) (w : Wrote d₁ p (tailOf number (toZ w64 (ofZ w64 first)) second accepted rejected) q d₂) where
+        tail-w : Wrote d₁ p (tailOf number first second accepted rejected) q d₂
+        tail-w = rw (toZ-ofZ f₂) at w
 
-      pub plain-bytes : (after : List ℕ) → after ≡ placed d at (lineOf n number (toZ w64 (ofZ w64 first)) second accepted rejected)
-          → after ≡ amplePlaced d at (lineWith (counted digits len n) number first second accepted rejected)
-      plain-bytes after w =
-          w ∙ placed-in d at (lineOf n number (toZ w64 (ofZ w64 first)) second accepted rejected) plain-inside ∙ ap (put d at) (sym plain)
-          ∙ sym (ample-bytes d at (lineWith (counted digits len n) number first second accepted rejected) inside)
+        pub over-length : q - at ≡ ampleFitted d at (lineWith (counted digits len n) number first second accepted rejected)
+        over-length =
+            let l : q - at ≡ length (lineWith (counted digits len n) number first second accepted rejected) =
+            omega (arith, tail-w .place, length-with number first second accepted rejected (counted digits len n)) in
+            l ∙ sym (ample-length d at (lineWith (counted digits len n) number first second accepted rejected) inside)
 
-    -- they are: eight bytes were written, and then the tail over those behind the number
-    module _ (u : not k ≡ false) where
-      yes-kept : isKept (length digits) len ≡ true
-      yes-kept = asked-kept (length digits) len k f u
-
-      few : len ≤ 8
-      few = kept-short (length digits) len yes-kept
-
-      pub eight-room : at + 8 ≤ length d
-      eight-room = omega (arith, inside)
-
-      pub eight-enough : 8 ≤ length digits
-      eight-enough = kept-room (length digits) len yes-kept
-
-      module _ (d₁ : List ℕ) (v : d₁ ≡ put d at (take 8 digits)) (f₂ : SFits w64 first) where
-        eight : length (take 8 digits) ≡ 8
-        eight = length-take-le 8 digits eight-enough
-
-        pub over-room : Fits w8 number → Fits w64 second → Fits w32 accepted → Fits w32 rejected → at + len + length (tailOf number (toZ w64 (ofZ w64 first)) second accepted rejected) ≤ length d₁
-        over-room f₁ f₃ f₄ f₅ =
-            let short = tail-short number first second accepted rejected (omega arith) (natAbs-le first (f₂ .sfits)) (omega arith) (omega arith) (omega arith) in
-            let long : length d₁ ≡ length d = ap length v ∙ length-put d at (take 8 digits) (omega (arith, eight, inside)) in
-            rw (toZ-ofZ f₂) (omega (arith, inside, few))
-
-        module _ (q : ℕ) (d₂ : List ℕ) (w : Wrote d₁ (at + len) (tailOf number (toZ w64 (ofZ w64 first)) second accepted rejected) q d₂) where
-          tail-w : Wrote d₁ (at + len) (tailOf number first second accepted rejected) q d₂
-          tail-w = rw (toZ-ofZ f₂) at w
-
-          with-kept : lineWith (counted digits len n) number first second accepted rejected ≡ take len digits ++ tailOf number first second accepted rejected
-          with-kept = with-tail number first second accepted rejected (counted digits len n) ∙ ap (λ (s : List ℕ). s ++ tailOf number first second accepted rejected) (counted-kept digits len n yes-kept)
-
-          pub over-length : q - at ≡ ampleFitted d at (lineWith (counted digits len n) number first second accepted rejected)
-          over-length =
-              let long = ap length with-kept ∙ length-append (take len digits) (tailOf number first second accepted rejected) in
-              let front = length-take-le len digits (omega (arith, few, eight-enough)) in
-              let l : q - at ≡ length (lineWith (counted digits len n) number first second accepted rejected) = omega (arith, tail-w .place) in
-              l ∙ sym (ample-length d at (lineWith (counted digits len n) number first second accepted rejected) inside)
-
-          pub over-bytes : d₂ ≡ amplePlaced d at (lineWith (counted digits len n) number first second accepted rejected)
-          over-bytes =
-              let some = tail-some number first second accepted rejected in
-              tail-w .bytes
-              ∙ ap (λ (b : List ℕ). put b (at + len) (tailOf number first second accepted rejected)) v
-              ∙ put-over d at len (take 8 digits) (tailOf number first second accepted rejected) (omega (arith, eight, few)) (omega (arith, eight)) (omega (arith, eight, inside))
-              ∙ ap (λ (s : List ℕ). put d at (s ++ tailOf number first second accepted rejected)) (take-take len 8 digits few)
-              ∙ ap (put d at) (sym with-kept)
-              ∙ sym (ample-bytes d at (lineWith (counted digits len n) number first second accepted rejected) inside)
+        pub over-bytes : d₂ ≡ amplePlaced d at (lineWith (counted digits len n) number first second accepted rejected)
+        over-bytes =
+            tail-w .bytes
+            ∙ ap₂ (λ (b : List ℕ) (m : ℕ). put b m (tailOf number first second accepted rejected)) v u
+            ∙ put-first digits len n (omega arith) d at (tailOf number first second accepted rejected) first-room (tail-some number first second accepted rejected)
+            ∙ ap (put d at) (sym (with-tail number first second accepted rejected (counted digits len n)))
+            ∙ sym (ample-bytes d at (lineWith (counted digits len n) number first second accepted rejected) inside)

@@ -26,7 +26,7 @@ use Rattle.lines.proofs.Writes.{length-field, wrote-both, room-next}
 -- ---- three zeros
 
 -- one byte more, behind those that were put
-put-next : (d : List ℕ) (at p : ℕ) (e : List ℕ) (x : ℕ) (d₁ : List ℕ) → p ≡ at + length e → p < length d → d₁ ≡ put d at e → set d₁ p x ≡ put d at (e ++ (x ∷ []))
+pub put-next : (d : List ℕ) (at p : ℕ) (e : List ℕ) (x : ℕ) (d₁ : List ℕ) → p ≡ at + length e → p < length d → d₁ ≡ put d at e → set d₁ p x ≡ put d at (e ++ (x ∷ []))
 put-next d at p e x d₁ q h w =
     let long : length (put d at e) ≡ length d = length-put d at e (omega arith) in
     ap (λ (b : List ℕ). set b p x) w ∙ sym (put-one (put d at e) p x (omega arith)) ∙ put-put d at p e (x ∷ []) q (omega arith)

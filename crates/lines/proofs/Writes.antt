@@ -1,21 +1,18 @@
--- What the writers' code writes: digits from the last to the first, fields one behind the other, the line.
+-- What the writers' code writes: digits from the last to the first, and fields one behind the other.
 use mathlib.Core.Path.{_≡_, refl, sym, ap, _∙_}
-use mathlib.Core.Bool.{Bool, true, false, not}
-use mathlib.Core.List.{List, [], _∷_, _++_, append-assoc}
+use mathlib.Core.Bool.{true, false}
+use mathlib.Core.List.{List, [], _∷_, _++_}
 use Prim.Native.Nat.{ℕ, suc, _+_, _-_, _/_, _%_, _≤_, _<_}
 use native.Mathlib.Omega.{arith}
 use borrow.Author.Tests.{le-leb, lt-leb}
-use lib.Dec.{leb}
 use lib.IntN.{ℤ, pos, natAbs}
 use lib.Signed.{leZ}
 use lib.ListN.{length, set, length-append, length-set}
 use mir.Syntax.{w64}
 use mir.Val.{SFits, toZ, ofZ}
-use mir.Facts.{toZ-ofZ}
-use Rattle.kit.specs.Lists.{put, placed}
-use Rattle.kit.proofs.Fields.{ends-in, ends-out}
-use Rattle.kit.proofs.Puts.{length-put, put-put, placed-in, placed-out, put-one, put-last}
-use Rattle.lines.specs.Lines.{decimalOf, signedOf, field, lineOf, frontOf, backOf, fitted, Wrote}
+use Rattle.kit.specs.Lists.{put}
+use Rattle.kit.proofs.Puts.{length-put, put-put, put-one, put-last}
+use Rattle.lines.specs.Lines.{decimalOf, signedOf, field, lineOf, fitted, Wrote}
 use Rattle.lines.proofs.Decimals.{decimal-small, decimal-more, length-small, length-more}
 use Rattle.lines.proofs.Signs.{signed-plus, signed-minus}
 
@@ -155,15 +152,6 @@ module _ (d : List ℕ) (at : ℕ) (x y z : List ℕ) (b₁ b₂ b₃ : ℕ) (ro
       let first-two : at + length (field x b₁ ++ field y b₂) ≤ length d = room-first d at (field x b₁ ++ field y b₂) (field z b₃) room in
       wrote-both d at (field x b₁ ++ field y b₂) (field z b₃) room q r d₂ d₃ (wrote-both d at (field x b₁) (field y b₂) first-two p q d₁ d₂ u v) w
 
--- and where the third is a signed number, of which the code hands on the bits
-module _ (d : List ℕ) (at : ℕ) (x y : List ℕ) (z : ℤ) (b₁ b₂ b₃ : ℕ) (room : at + length (field x b₁ ++ field y b₂ ++ field (signedOf z) b₃) ≤ length d) (fit : SFits w64 z) where
-  pub room-signed : (e₁ p : ℕ) (d₁ : List ℕ) → Wrote d at (field x e₁) p d₁ → (e₂ q : ℕ) (d₂ : List ℕ) → Wrote d₁ p (field y e₂) q d₂ → q + length (signedOf (toZ w64 (ofZ w64 z))) < length d₂
-  room-signed e₁ p d₁ u e₂ q d₂ v = rw (toZ-ofZ fit) (room-three d at x y (signedOf z) b₁ b₂ b₃ room e₁ p d₁ u e₂ q d₂ v)
-
-  pub wrote-signed : (p : ℕ) (d₁ : List ℕ) → Wrote d at (field x b₁) p d₁ → (q : ℕ) (d₂ : List ℕ) → Wrote d₁ p (field y b₂) q d₂ → (r : ℕ) (d₃ : List ℕ)
-      → Wrote d₂ q (field (signedOf (toZ w64 (ofZ w64 z))) b₃) r d₃ → Wrote d at (field x b₁ ++ field y b₂ ++ field (signedOf z) b₃) r d₃
-  wrote-signed p d₁ u q d₂ v r d₃ w = wrote-three d at x y (signedOf z) b₁ b₂ b₃ room p d₁ u q d₂ v r d₃ (rw (toZ-ofZ fit) at w)
-
 -- ---- what fits
 
 pub fitted-in : (d : List ℕ) (at : ℕ) (e : List ℕ) → at + length e ≤ length d → fitted d at e ≡ length e
@@ -176,70 +164,7 @@ fitted-out d at e h = rw (lt-leb (at + length e) (length d) h)
 
 -- ---- the line
 
-module _ (nth number : ℕ) (first : ℤ) (second accepted rejected : ℕ) where
-  pub line-parts : lineOf nth number first second accepted rejected ≡ frontOf nth number first ++ backOf second accepted rejected
-  unfolding lineOf
-  line-parts = simp append-assoc
-
-  pub length-line : length (lineOf nth number first second accepted rejected)
-      ≡ length (decimalOf nth) + 1 + (length (decimalOf number) + 1) + (length (signedOf first) + 1) + (length (decimalOf second) + 1) + (length (decimalOf accepted) + 1) + (length (decimalOf rejected) + 1)
-  unfolding lineOf
-  length-line = simp (length-append, length-field)
-
--- the lengths of the fields, each with the byte that ends it; the code hands on the bits of `first`
-pub length-sum : (nth number : ℕ) (first : ℤ) (second accepted rejected x₁ x₂ x₃ x₄ x₅ x₆ : ℕ) → x₁ ≡ length (decimalOf nth) + 1 → x₂ ≡ length (decimalOf number) + 1 → SFits w64 first
-    → x₃ ≡ length (signedOf (toZ w64 (ofZ w64 first))) + 1 → x₄ ≡ length (decimalOf second) + 1 → x₅ ≡ length (decimalOf accepted) + 1 → x₆ ≡ length (decimalOf rejected) + 1
-    → x₁ + x₂ + x₃ + x₄ + x₅ + x₆ ≡ length (lineOf nth number first second accepted rejected)
-length-sum nth number first second accepted rejected x₁ x₂ x₃ x₄ x₅ x₆ e₁ e₂ fit e₃ e₄ e₅ e₆ =
-    let f₃ : x₃ ≡ length (signedOf first) + 1 = rw (toZ-ofZ fit) at e₃ in
-    omega (arith, length-line nth number first second accepted rejected)
-
--- room was asked for, r: where there is none nothing is written, else one group of fields and then the other
-module _ (d : List ℕ) (at nth number : ℕ) (first : ℤ) (second accepted rejected : ℕ) (r : Bool)
-    (asked : r ≡ leb (at + length (lineOf nth number (toZ w64 (ofZ w64 first)) second accepted rejected)) (length d)) (fit : SFits w64 first) where
-  line : List ℕ
-  line = lineOf nth number first second accepted rejected
-
-  module _ (t : not r ≡ true) where
-    outside : length d < at + length line
-    unfolding line
-    outside = ends-out r at (length line) (length d) (rw (toZ-ofZ fit) at asked) t
-
-    pub refused-answer : 0 ≡ fitted d at (lineOf nth number first second accepted rejected)
-    unfolding line
-    refused-answer = sym (fitted-out d at line outside)
-
-    pub refused-bytes : d ≡ placed d at (lineOf nth number first second accepted rejected)
-    unfolding line
-    refused-bytes = sym (placed-out d at line outside)
-
-  module _ (t : not r ≡ false) where
-    inside : at + length line ≤ length d
-    unfolding line
-    inside = ends-in r at (length line) (length d) (rw (toZ-ofZ fit) at asked) t
-
-    both-inside : at + length (frontOf nth number (toZ w64 (ofZ w64 first)) ++ backOf second accepted rejected) ≤ length d
-    unfolding line
-    both-inside = rw (toZ-ofZ fit, ← line-parts nth number first second accepted rejected) inside
-
-    pub front-room : at + length (frontOf nth number (toZ w64 (ofZ w64 first))) ≤ length d
-    front-room = room-first d at (frontOf nth number (toZ w64 (ofZ w64 first))) (backOf second accepted rejected) both-inside
-
-    module _ (p : ℕ) (d₁ : List ℕ) (u : Wrote d at (frontOf nth number (toZ w64 (ofZ w64 first))) p d₁) where
-      pub back-room : p + length (backOf second accepted rejected) ≤ length d₁
-      back-room = room-next d at (frontOf nth number (toZ w64 (ofZ w64 first))) (backOf second accepted rejected) both-inside p d₁ u
-
-      module _ (q : ℕ) (d₂ : List ℕ) (v : Wrote d₁ p (backOf second accepted rejected) q d₂) where
-        line-wrote : Wrote d at line q d₂
-        unfolding line
-        line-wrote =
-            rw (line-parts nth number first second accepted rejected, ← toZ-ofZ fit)
-            (wrote-both d at (frontOf nth number (toZ w64 (ofZ w64 first))) (backOf second accepted rejected) both-inside p q d₁ d₂ u v)
-
-        pub done-answer : q - at ≡ fitted d at (lineOf nth number first second accepted rejected)
-        unfolding line
-        done-answer = let l : q - at ≡ length line = omega (arith, line-wrote .place) in l ∙ sym (fitted-in d at line inside)
-
-        pub done-bytes : d₂ ≡ placed d at (lineOf nth number first second accepted rejected)
-        unfolding line
-        done-bytes = line-wrote .bytes ∙ sym (placed-in d at line inside)
+pub length-line : (nth number : ℕ) (first : ℤ) (second accepted rejected : ℕ) → length (lineOf nth number first second accepted rejected)
+    ≡ length (decimalOf nth) + 1 + (length (decimalOf number) + 1) + (length (signedOf first) + 1) + (length (decimalOf second) + 1) + (length (decimalOf accepted) + 1) + (length (decimalOf rejected) + 1)
+unfolding lineOf
+length-line nth number first second accepted rejected = simp (length-append, length-field)

@@ -1,7 +1,7 @@
 -- The number of a record kept as digits from one line to the next, and the line that begins with them.
-use mathlib.Core.Bool.{Bool, _&&_, cond}
+use mathlib.Core.Bool.{Bool, true, false, _&&_, cond}
 use mathlib.Core.List.{List, _∷_, _++_}
-use Prim.Native.Nat.{ℕ, _+_, _-_}
+use Prim.Native.Nat.{ℕ, zero, suc, _+_}
 use lib.Dec.{ltb, leb}
 use lib.IntN.{ℤ}
 use lib.ListN.{length, take, getD, set}
@@ -27,19 +27,26 @@ countedDigits digits n = cond (isKeepable (length digits) n) (put digits 0 (deci
 unfoldable pub countedLength : List ℕ → ℕ → ℕ
 countedLength digits n = cond (isKeepable (length digits) n) (length (decimalOf n)) 0
 
--- the last digit that is kept
-abbrev pub lastKept : List ℕ → ℕ → ℕ
-lastKept digits len = getD digits (len - 1) 0
+-- the first k digits with one more: the last of them grows where it is below `9`, else it is `0` and the one goes to those before it
+unfoldable pub oneMore : ℕ → List ℕ → List ℕ
+oneMore zero digits = digits
+oneMore (suc k) digits = cond (ltb (getD digits k 0) 57) (set digits k (getD digits k 0 + 1)) (oneMore k (set digits k 48))
 
--- from the digits of the number before n to those of n: a last digit below `9` alone grows, else all are made anew; where none are kept, none are
+-- and whether one of them grows: where all are `9`, none does
+unfoldable pub isGrown : ℕ → List ℕ → Bool
+isGrown zero digits = false
+isGrown (suc k) digits = cond (ltb (getD digits k 0) 57) true (isGrown k (set digits k 48))
+
+-- from the digits of the number before n to those of n: one more, and where all were `9`, all are made anew; where none are kept, none are
 unfoldable pub digitsOn : List ℕ → ℕ → ℕ → List ℕ
-digitsOn digits len n =
-    cond (isKept (length digits) len)
-    (cond (ltb (lastKept digits len) 57) (set digits (len - 1) (lastKept digits len + 1)) (countedDigits digits n))
-    digits
+digitsOn digits len n = cond (isKept (length digits) len) (cond (isGrown len digits) (oneMore len digits) (countedDigits (oneMore len digits) n)) digits
 
 unfoldable pub lengthOn : List ℕ → ℕ → ℕ → ℕ
-lengthOn digits len n = cond (isKept (length digits) len) (cond (ltb (lastKept digits len) 57) len (countedLength digits n)) 0
+lengthOn digits len n = cond (isKept (length digits) len) (cond (isGrown len digits) len (countedLength (oneMore len digits) n)) 0
+
+-- the bytes that are written for the first field of a line: all eight where digits are kept, of which the rest of the line covers those behind the number
+unfoldable pub firstWritten : List ℕ → ℕ → ℕ → List ℕ
+firstWritten digits len n = cond (isKept (length digits) len) (take 8 digits) (decimalOf n)
 
 -- a line whose first field has these bytes
 unfoldable pub lineWith : List ℕ → ℕ → ℤ → ℕ → ℕ → ℕ → List ℕ

@@ -45,10 +45,7 @@ lineOf nth number first second accepted rejected =
     ++ field (decimalOf accepted) 32
     ++ field (decimalOf rejected) 10
 
--- its first three fields, and its last three: the code writes one group and then the other
-abbrev pub frontOf : ℕ → ℕ → ℤ → List ℕ
-frontOf nth number first = field (decimalOf nth) 32 ++ field (decimalOf number) 32 ++ field (signedOf first) 32
-
+-- its last three fields
 abbrev pub backOf : ℕ → ℕ → ℕ → List ℕ
 backOf second accepted rejected = field (decimalOf second) 32 ++ field (decimalOf accepted) 32 ++ field (decimalOf rejected) 10
 

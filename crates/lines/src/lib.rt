@@ -3,17 +3,17 @@ ghost use mathlib.Core.Path.{_≡_};
 ghost use Prim.Native.Nat.{_+_, _≤_, _<_};
 ghost use mathlib.Core.Bool.{_&&_};
 ghost use mathlib.Core.List.{[], _∷_};
-ghost use lib.Dec.{leb, eqb};
-ghost use lib.IntN.{natAbs};
+ghost use lib.Dec.{eqb};
+ghost use lib.IntN.{pos, natAbs};
 ghost use lib.ListN.{length, take};
 ghost use Rattle.kit.specs.Lists.{put, placed};
-ghost use Rattle.lines.specs.Lines.{decimalOf, signedOf, field, lineOf, frontOf, backOf, fitted, Wrote};
-ghost use Rattle.lines.specs.Counts.{isKept, counted, countedDigits, countedLength, digitsOn, lengthOn, lineWith, tailOf, amplePlaced, ampleFitted};
+ghost use Rattle.lines.specs.Lines.{decimalOf, signedOf, field, lineOf, backOf, fitted, Wrote};
+ghost use Rattle.lines.specs.Counts.{isKept, counted, countedDigits, countedLength, isGrown, oneMore, digitsOn, lengthOn, firstWritten, lineWith, tailOf, amplePlaced, ampleFitted};
 
-// ---- lengths
+// ---- numbers
 
 // How many digits a number has.
-pub fn decimal_length(n: u64) -> usize
+fn decimal_length(n: u64) -> usize
     ensures { λ r. ⌜ r ≡ length (decimalOf n) ⌝ }
 {
     if n < 10 {
@@ -86,66 +86,6 @@ fn magnitude(z: i64) -> u64
     (!z as u64) + 1
 }
 
-// How many bytes a field has, with the byte that ends it.
-fn field_length(n: u64) -> usize
-    ensures { λ r. ⌜ (r ≡ length (decimalOf n) + 1) × (r ≤ 21) ⌝ }
-{
-    decimal_length(n) + 1
-}
-
-// The same of a signed number.
-fn signed_length(z: i64) -> usize
-    ensures { λ r. ⌜ (r ≡ length (signedOf z) + 1) × (r ≤ 22) ⌝ }
-{
-    let n = field_length(magnitude(z));
-    if 0 <= z {
-        return n;
-    }
-    n + 1
-}
-
-// How many bytes a line has.
-pub fn line_length(
-    record: u64,
-    number: u8,
-    first: i64,
-    second: u64,
-    accepted: u32,
-    rejected: u32,
-) -> usize
-    ensures { λ r. ⌜ r ≡ length (lineOf «record» number first second accepted rejected) ⌝ }
-{
-    field_length(record)
-        + field_length(number as u64)
-        + signed_length(first)
-        + field_length(second)
-        + field_length(accepted as u64)
-        + field_length(rejected as u64)
-}
-
-// Whether a line ends inside a buffer of so many bytes; no line is longer than 89.
-fn has_room(
-    len: usize,
-    at: usize,
-    record: u64,
-    number: u8,
-    first: i64,
-    second: u64,
-    accepted: u32,
-    rejected: u32,
-) -> bool
-    ensures { λ r. ⌜ r ≡ leb (at + length (lineOf «record» number first second accepted rejected)) len ⌝ }
-{
-    if kit::ends_inside(len, at, 89) {
-        return true;
-    }
-    kit::ends_inside(
-        len,
-        at,
-        line_length(record, number, first, second, accepted, rejected),
-    )
-}
-
 // ---- fields
 
 // The digits of a number, written at a place from the last to the first; the place behind them.
@@ -192,19 +132,9 @@ fn write_signed(out: &mut [u8], at: usize, z: i64, end: u8) -> usize
     write_number(out, at + 1, n, end)
 }
 
-// ---- the line
+// ---- the last three fields of a line
 
-// Its first fields, written at a place; the place behind them.
-fn write_front(out: &mut [u8], at: usize, record: u64, number: u8, first: i64) -> usize
-    requires { ⌜ at + length (frontOf «record» number first) ≤ length (now out) ⌝ }
-    ensures { λ r. ⌜ Wrote (now (out .entry)) at (frontOf «record» number first) r (now (out .exit)) ⌝ }
-{
-    let p = write_number(out, at, record, b' ');
-    let q = write_number(out, p, number as u64, b' ');
-    write_signed(out, q, first, b' ')
-}
-
-// Whether its last fields are all 0.
+// Whether they are all 0.
 fn all_zero(second: u64, accepted: u32, rejected: u32) -> bool
     ensures { λ r. ⌜ r ≡ (eqb second 0 && (eqb accepted 0 && eqb rejected 0)) ⌝ }
 {
@@ -217,7 +147,7 @@ fn all_zero(second: u64, accepted: u32, rejected: u32) -> bool
     rejected == 0
 }
 
-// Three zeros as its last fields.
+// Three zeros as these fields, written at a place; the place behind them.
 fn write_zeros(out: &mut [u8], at: usize) -> usize
     requires { ⌜ at + 6 ≤ length (now out) ⌝ }
     ensures { λ r. ⌜ Wrote (now (out .entry)) at (48 ∷ 32 ∷ 48 ∷ 32 ∷ 48 ∷ 10 ∷ []) r (now (out .exit)) ⌝ }
@@ -231,7 +161,7 @@ fn write_zeros(out: &mut [u8], at: usize) -> usize
     at + 6
 }
 
-// Its last fields.
+// These fields, written at a place; the place behind them.
 fn write_back(out: &mut [u8], at: usize, second: u64, accepted: u32, rejected: u32) -> usize
     requires { ⌜ at + length (backOf second accepted rejected) ≤ length (now out) ⌝ }
     ensures { λ r. ⌜ Wrote (now (out .entry)) at (backOf second accepted rejected) r (now (out .exit)) ⌝ }
@@ -244,35 +174,38 @@ fn write_back(out: &mut [u8], at: usize, second: u64, accepted: u32, rejected: u
     write_number(out, q, rejected as u64, b'\n')
 }
 
-// The line of an answer, written at a place where it ends inside the buffer; its length. Where it does not, nothing changes and the length is 0.
-pub fn write_line(
-    out: &mut [u8],
-    at: usize,
-    record: u64,
-    number: u8,
-    first: i64,
-    second: u64,
-    accepted: u32,
-    rejected: u32,
-) -> usize
-    ensures answer { λ r. ⌜ r ≡ fitted (now (out .entry)) at (lineOf «record» number first second accepted rejected) ⌝ }
-    ensures bytes { λ _. ⌜ now (out .exit) ≡ placed (now (out .entry)) at (lineOf «record» number first second accepted rejected) ⌝ }
+// ---- the line of a record that gave a number and no more
+
+// How many bytes it has: the digits of two numbers, a space behind each, and `0 0 0 0` with a newline.
+pub fn refused_length(record: u64, number: u8) -> usize
+    ensures { λ r. ⌜ r ≡ length (lineOf «record» number (pos 0) 0 0 0) ⌝ }
 {
-    if !has_room(
-        out.len(),
-        at,
-        record,
-        number,
-        first,
-        second,
-        accepted,
-        rejected,
-    ) {
+    decimal_length(record) + decimal_length(number as u64) + 10
+}
+
+// Four zeros as its last fields, written at a place; the place behind them.
+fn write_four_zeros(out: &mut [u8], at: usize) -> usize
+    requires { ⌜ at + 8 ≤ length (now out) ⌝ }
+    ensures { λ r. ⌜ Wrote (now (out .entry)) at (48 ∷ 32 ∷ 48 ∷ 32 ∷ 48 ∷ 32 ∷ 48 ∷ 10 ∷ []) r (now (out .exit)) ⌝ }
+{
+    out[at] = b'0';
+    out[at + 1] = b' ';
+    write_zeros(out, at + 2)
+}
+
+// The line of a record that gave a number and no more, written at a place where it ends inside the buffer; its length. Where it does not,
+// nothing changes and the length is 0.
+pub fn write_refused(out: &mut [u8], at: usize, record: u64, number: u8) -> usize
+    ensures answer { λ r. ⌜ r ≡ fitted (now (out .entry)) at (lineOf «record» number (pos 0) 0 0 0) ⌝ }
+    ensures bytes { λ _. ⌜ now (out .exit) ≡ placed (now (out .entry)) at (lineOf «record» number (pos 0) 0 0 0) ⌝ }
+{
+    if !kit::ends_inside(out.len(), at, refused_length(record, number)) {
         return 0;
     }
-    let p = write_front(out, at, record, number, first);
-    let q = write_back(out, p, second, accepted, rejected);
-    q - at
+    let p = write_number(out, at, record, b' ');
+    let q = write_number(out, p, number as u64, b' ');
+    let end = write_four_zeros(out, q);
+    end - at
 }
 
 // ---- the line with the number of its record kept as digits
@@ -304,7 +237,27 @@ pub fn count_from(digits: &mut [u8], n: u64) -> usize
     write_decimal(digits, 0, n)
 }
 
-// From the digits of n - 1, the first `len`, to those of n: a last digit below 9 alone grows, else all are made anew. Where none are kept, none are.
+// One more in the number of the first `len` digits, from the last one to the first: a nine becomes 0 and the digit before it has its turn. Whether
+// some digit grew: where all are nines, none does.
+fn add_one(digits: &mut [u8], len: usize) -> bool
+    requires { ⌜ len ≤ length (now digits) ⌝ }
+    ensures answer { λ r. ⌜ r ≡ isGrown len (now (digits .entry)) ⌝ }
+    ensures bytes { λ _. ⌜ now (digits .exit) ≡ oneMore len (now (digits .entry)) ⌝ }
+{
+    let mut i = len;
+    while 0 < i {
+        i -= 1;
+        let digit = digits[i];
+        if digit < b'9' {
+            digits[i] = digit + 1;
+            return true;
+        }
+        digits[i] = b'0';
+    }
+    false
+}
+
+// From the digits of n - 1, the first `len`, to those of n: one more, and where all were nines, all are made anew. Where none are kept, none are.
 pub fn count_on(digits: &mut [u8], len: usize, n: u64) -> usize
     ensures answer { λ r. ⌜ r ≡ lengthOn (now (digits .entry)) len n ⌝ }
     ensures bytes { λ _. ⌜ now (digits .exit) ≡ digitsOn (now (digits .entry)) len n ⌝ }
@@ -312,9 +265,7 @@ pub fn count_on(digits: &mut [u8], len: usize, n: u64) -> usize
     if !is_kept(digits.len(), len) {
         return 0;
     }
-    let last = digits[len - 1];
-    if last < b'9' {
-        digits[len - 1] = last + 1;
+    if add_one(digits, len) {
         return len;
     }
     count_from(digits, n)
@@ -328,6 +279,20 @@ fn write_eight(out: &mut [u8], at: usize, digits: &[u8])
     for i in 0..8 {
         out[at + i] = digits[i];
     }
+}
+
+// The bytes of the first field, those that are kept, else made of `record`, written at a place; the place behind them. All eight bytes of kept
+// digits are written, the rest of the line goes over those behind the number.
+fn write_first(out: &mut [u8], at: usize, digits: &[u8], len: usize, record: u64) -> usize
+    requires { ⌜ at + 20 ≤ length (now out) ⌝ }
+    ensures place { λ r. ⌜ r ≡ at + length (counted (now (digits .entry)) len «record») ⌝ }
+    ensures bytes { λ _. ⌜ now (out .exit) ≡ put (now (out .entry)) at (firstWritten (now (digits .entry)) len «record») ⌝ }
+{
+    if !is_kept(digits.len(), len) {
+        return write_decimal(out, at, record);
+    }
+    write_eight(out, at, digits);
+    at + len
 }
 
 // What stands behind the first field of a line, written at a place; the place behind it.
@@ -350,7 +315,7 @@ fn write_tail(
 }
 
 // The line of an answer whose first field is the digits that are kept, else `record`, written at a place behind which 89 bytes fit; its length.
-// Where they do not, nothing changes and the length is 0. All eight bytes of the digits are written, and the rest of the line over those behind the number.
+// Where they do not, nothing changes and the length is 0.
 pub fn write_counted(
     out: &mut [u8],
     at: usize,
@@ -369,10 +334,7 @@ pub fn write_counted(
     if !kit::ends_inside(out.len(), at, 89) {
         return 0;
     }
-    if !is_kept(digits.len(), len) {
-        return write_line(out, at, record, number, first, second, accepted, rejected);
-    }
-    write_eight(out, at, digits);
-    let q = write_tail(out, at + len, number, first, second, accepted, rejected);
+    let p = write_first(out, at, digits, len, record);
+    let q = write_tail(out, p, number, first, second, accepted, rejected);
     q - at
 }

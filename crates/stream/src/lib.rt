@@ -13,7 +13,7 @@ ghost use Rattle.stream.specs.Stands.{Stands};
 use crate::files::save_copies;
 use libc::STDIN_FILENO;
 use libc::STDOUT_FILENO;
-use lines::write_line;
+use lines::write_refused;
 use steps::run::run;
 use table::data::Table;
 use table::fresh::fresh;
@@ -70,7 +70,7 @@ fn read_more(buf: &mut [u8], have: usize) -> usize
 fn write_refusal(line: &mut [u8], nth: u64, number: u8) -> usize
     ensures { λ r. ⌜ Counts r (now (line .exit)) ⌝ }
 {
-    write_line(line, 0, nth, number, 0, 0, 0, 0)
+    write_refused(line, 0, nth, number)
 }
 
 // The same line, printed.

@@ -1,5 +1,5 @@
 -- `lines::count_on` meets its contract.
-use Rattle.lines.proofs.Counting.{asked-some, asked-inside, stays-digits, stays-length, grows-digits, grows-length, anew-digits, anew-length}
+use Rattle.lines.proofs.Counting.{asked-room, stays-digits, stays-length, grows-digits, grows-length, anew-digits, anew-length}
 use borrow.Author.Needs.{needs}
 use Rattle.lines.proofs.count_on.Statement.{statement}
 use Rattle.lines.proofs.count_on.Tie as tie
@@ -10,20 +10,8 @@ is-kept-requires c κs = search needs
 returns : tie.Need-returns
 returns c = search (stays-length, stays-digits)
 
-sub-last : tie.Need-sub-last
-sub-last c = search asked-some
-
-slice-read-last : tie.Need-slice-read-last
-slice-read-last c = search asked-inside
-
-add-digits : tie.Need-add-digits
-add-digits c = search needs
-
-sub-digits : tie.Need-sub-digits
-sub-digits c = search asked-some
-
-slice-write-digits : tie.Need-slice-write-digits
-slice-write-digits c = search asked-inside
+add-one-requires : tie.Need-add-one-requires
+add-one-requires c κs = search asked-room
 
 same-length : tie.Need-same-length
 same-length c = search needs
@@ -46,11 +34,7 @@ count-on-spec =
     (tie.spec
     is-kept-requires
     returns
-    sub-last
-    slice-read-last
-    add-digits
-    sub-digits
-    slice-write-digits
+    add-one-requires
     same-length
     returns-2
     count-from-requires
