@@ -1,5 +1,6 @@
 -- Lists changed place by place: `changed n f l`, one place more, what stands where, and a store at one place.
 use mathlib.Core.Path.{_≡_, refl, sym, _∙_, ap}
+use mathlib.Core.Bool.{Bool, true, false, cond}
 use mathlib.Core.List.{List, [], _∷_}
 use Prim.Native.Nat.{ℕ, zero, suc, _+_, _≤_, _<_}
 use native.Mathlib.Decide.{ℕ-discrete}
@@ -57,6 +58,13 @@ module _ {A : Type 0} where
   -- a place that the change leaves as it was
   pub changed-keep : (n : ℕ) (f : ℕ → A → A) (l : List A) (d : A) → f n (getD l n d) ≡ getD l n d → changed (n + 1) f l ≡ changed n f l
   changed-keep n f l d e = rw (changed-more n f l d, e, ← changed-rest n f l d n (omega arith), set-getD (changed n f l) n d)
+
+  -- a turn that stores a there, or leaves the place as it was
+  pub changed-if
+      : (n : ℕ) (f : ℕ → A → A) (l : List A) (d : A) (b : Bool) (a : A) → f n (getD l n d) ≡ cond b a (getD l n d)
+      → cond b (set (changed n f l) n a) (changed n f l) ≡ changed (n + 1) f l
+  changed-if n f l d true a e = rw (changed-more n f l d, e)
+  changed-if n f l d false a e = rw (changed-keep n f l d e)
 
   -- ---- a store at one place: what holds of what was put, and of each that was there, holds of each
 

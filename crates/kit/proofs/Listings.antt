@@ -8,7 +8,6 @@ use borrow.Author.Count.{below-more}
 use lib.ListN.{length, getD, set, replicate, length-set, length-replicate, length-map}
 use lib.Seq.{getD-set-same, getD-set-other, ext-getD}
 use Rattle.kit.specs.Lists.{listed}
-use Rattle.kit.proofs.Bools.{by-lt}
 
 -- a list of images: as long as the list, and of `listed n g` the images of its elements
 pub length-mapped : (X Y : Type 0) (f : X → Y) (l : List X) (n : ℕ) → length (map f l) ≡ n → length l ≡ n
@@ -79,14 +78,6 @@ module _ {A : Type 0} where
     filled-skip i r e w = record {
       long = w .long;
       done = below-more (λ (k : ℕ). getD r k d ≡ f k) i (w .done) (w .left i (omega arith) ∙ e);
-      left = λ k l. w .left k (omega arith);
-    }
-
-    -- turns that leave the elements from i to j as they were
-    pub filled-over : (i j : ℕ) (r : List A) → i ≤ j → ((k : ℕ) → i ≤ k → k < j → d ≡ f k) → Filled i r → Filled j r
-    filled-over i j r h e w = record {
-      long = w .long;
-      done = λ k l. by-lt k i (λ m. w .done k m) (λ m. w .left k m ∙ e k m l);
       left = λ k l. w .left k (omega arith);
     }
 

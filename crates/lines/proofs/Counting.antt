@@ -27,10 +27,6 @@ use Rattle.lines.proofs.Tails.{put-over, line-with, with-tail, length-w
 
 module _ (size len : ℕ) where
   module _ (h : isKept size len ≡ true) where
-    pub kept-some : 1 ≤ len
-    unfolding isKept
-    kept-some = leb-true 1 len (and-left _ _ (and-left (leb 1 len && leb len 8) (leb 8 size) h))
-
     pub kept-short : len ≤ 8
     unfolding isKept
     kept-short = leb-true len 8 (and-right (leb 1 len) _ (and-left (leb 1 len && leb len 8) (leb 8 size) h))

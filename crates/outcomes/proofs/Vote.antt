@@ -70,18 +70,14 @@ use Rattle.vote.proofs.requests.is_concurrent.Kinds as is-concurrent-kinds
 use Rattle.vote.proofs.requests.is_concurrent.Reads as is-concurrent-reads
 use Rattle.vote.proofs.verdicts.verdict_due.Kinds as verdict-due-kinds
 use Rattle.vote.proofs.verdicts.verdict_due.Reads as verdict-due-reads
-use Rattle.vote.proofs.verdicts.write_copy.Kinds as write-copy-kinds
-use Rattle.vote.proofs.verdicts.write_copy.Reads as write-copy-reads
-use Rattle.vote.proofs.verdicts.write_ruled.Kinds as write-ruled-kinds
-use Rattle.vote.proofs.verdicts.write_ruled.Reads as write-ruled-reads
 use Rattle.vote.proofs.verdicts.note_verdict.Kinds as note-verdict-kinds
 use Rattle.vote.proofs.verdicts.note_verdict.Reads as note-verdict-reads
 use Rattle.vote.proofs.verdicts.rule.Kinds as rule-kinds
 use Rattle.vote.proofs.verdicts.rule.Reads as rule-reads
 use Rattle.vote.proofs.voters.voters_of.Kinds as voters-of-kinds
 use Rattle.vote.proofs.voters.voters_of.Reads as voters-of-reads
-use Rattle.vote.proofs.voters.only_voter.Kinds as only-voter-kinds
-use Rattle.vote.proofs.voters.only_voter.Reads as only-voter-reads
+use Rattle.vote.proofs.voters.join_voter.Kinds as join-voter-kinds
+use Rattle.vote.proofs.voters.join_voter.Reads as join-voter-reads
 use Rattle.vote.proofs.voters.join_voters.Kinds as join-voters-kinds
 use Rattle.vote.proofs.voters.join_voters.Reads as join-voters-reads
 use Rattle.vote.proofs.voters.clear_voters.Kinds as clear-voters-kinds
@@ -253,14 +249,6 @@ one-is-concurrent κs a r r′ w w′ p q = (as-one p q, refl)
 pub one-verdict-due : OneOutcome verdict-due-kinds.ps verdict-due-kinds.r verdict-due-reads.Learnt
 one-verdict-due κs a r r′ w w′ p q = (as-one p q, refl)
 
--- vote::verdicts::write_copy
-pub one-write-copy : OneOutcome write-copy-kinds.ps write-copy-kinds.r write-copy-reads.Learnt
-one-write-copy κs a r r′ w w′ p q = (refl, part-by-part (as-one (p .0) (q .0)) (part-by-part (as-one (p .1) (q .1)) refl))
-
--- vote::verdicts::write_ruled
-pub one-write-ruled : OneOutcome write-ruled-kinds.ps write-ruled-kinds.r write-ruled-reads.Learnt
-one-write-ruled κs a r r′ w w′ p q = (refl, part-by-part refl (part-by-part (as-one (p .0) (q .0)) (part-by-part (as-one (p .1) (q .1)) refl)))
-
 -- vote::verdicts::note_verdict
 pub one-note-verdict : OneOutcome note-verdict-kinds.ps note-verdict-kinds.r note-verdict-reads.Learnt
 one-note-verdict κs a r r′ w w′ p q = (refl, part-by-part (as-one p q) refl)
@@ -273,9 +261,9 @@ one-rule κs a r r′ w w′ p q = (as-one (p .1 .1 .0) (q .1 .1 .0), part-by-pa
 pub one-voters-of : OneOutcome voters-of-kinds.ps voters-of-kinds.r voters-of-reads.Learnt
 one-voters-of κs a r r′ w w′ p q = (as-one p q, refl)
 
--- vote::voters::only_voter
-pub one-only-voter : OneOutcome only-voter-kinds.ps only-voter-kinds.r only-voter-reads.Learnt
-one-only-voter κs a r r′ w w′ p q = (as-one p q, refl)
+-- vote::voters::join_voter
+pub one-join-voter : OneOutcome join-voter-kinds.ps join-voter-kinds.r join-voter-reads.Learnt
+one-join-voter κs a r r′ w w′ p q = (refl, part-by-part (as-one p q) refl)
 
 -- vote::voters::join_voters
 pub one-join-voters : OneOutcome join-voters-kinds.ps join-voters-kinds.r join-voters-reads.Learnt

@@ -4,6 +4,7 @@ use mathlib.Core.Path.{_≡_, refl, sym, ap, _∙_}
 use mathlib.Core.Bool.{Bool, true, false, not, _&&_, and-true, and-false}
 use Prim.Native.Nat.{ℕ, zero, suc, _+_, _-_, _*_, _/_, _%_, _^_, _≤_, _<_}
 use native.Mathlib.Nat.{mod-lt, zero-lt-suc, add-zero, mul-div-cancel, mul-mod-left, lt-of-le-of-lt}
+use native.Mathlib.Numerals.{add-one}
 use native.Mathlib.Omega.{arith}
 use borrow.Author.Tests.{eq-eqb, ne-eqb}
 use lib.Arith.{lt-one}
@@ -102,6 +103,10 @@ module _ (s from left : ℕ) (ne : left ≡ 0 → ⊥) (fits : left < 2 ^ 32) (l
   pub item-small : trailingZeros 32 left < 32
   item-small = by-lt (trailingZeros 32 left) 32 (λ h. h) (λ h. clash (lowest 32 left ne fits) (above 32 left (trailingZeros 32 left) fits h))
 
+  -- where all items of the set are below k, it is
+  pub item-below : (k : ℕ) → s < 2 ^ k → trailingZeros 32 left < k
+  item-below k h = by-lt (trailingZeros 32 left) k (λ l. l) (λ l. clash item-in (above k s (trailingZeros 32 left) h l))
+
   pub left-falls : bitAnd left (left - 1) < left
   left-falls = let h : bitAnd left (left - 1) ≤ left - 1 = and-le-r left (left - 1) in omega (arith, ne)
 
@@ -129,9 +134,7 @@ module _ (s : ℕ) (t : ℕ → Bool) where
     sought-item = item-small s (v .from) left ne (v .fits) (v .left-is)
 
     pub sought-below : (k : ℕ) → s < 2 ^ k → trailingZeros 32 left < k
-    sought-below k h =
-        by-lt (trailingZeros 32 left) k (λ l. l)
-        (λ l. clash (item-in s (v .from) left ne (v .fits) (v .left-is)) (above k s (trailingZeros 32 left) h l))
+    sought-below k h = item-below s (v .from) left ne (v .fits) (v .left-is) k h
 
     pub sought-less : bitAnd left (left - 1) < left
     sought-less = left-falls s (v .from) left ne (v .fits) (v .left-is)
@@ -155,3 +158,66 @@ module _ (s : ℕ) (t : ℕ → Bool) where
     -- the first that is left stands behind the n that are asked for
     pub sought-past : (n : ℕ) → n ≤ trailingZeros 32 left → false ≡ any n (λ i. member s i && t i)
     sought-past n h = sym (none-of n (λ i. member s i && t i) (λ i l. before-item i (omega arith)))
+
+-- ---- in it something is done at each item: P i says that the first i numbers are done, of n; for one that is no item there is nothing to do
+
+-- those that are gone are done
+pub record Done (n s : ℕ) (P : ℕ → Type 0) (left : ℕ) : Type 0 where
+  pub from : ℕ
+  pub in-range : from ≤ n
+  pub fits : left < 2 ^ 32
+  pub left-is : Left s from left
+  pub so-far : P from
+
+pub done-start : {n s : ℕ} {P : ℕ → Type 0} → s < 2 ^ 32 → P 0 → Done n s P s
+done-start {s = s} h p = record { from = 0; in-range = omega arith; fits = h; left-is = left-all s; so-far = p }
+
+module _ {n s : ℕ} {P : ℕ → Type 0} {left : ℕ} (v : Done n s P left) (ne : left ≡ 0 → ⊥) where
+  pub done-item : trailingZeros 32 left < 32
+  done-item = item-small s (v .from) left ne (v .fits) (v .left-is)
+
+  pub done-in : member s (trailingZeros 32 left) ≡ true
+  done-in = item-in s (v .from) left ne (v .fits) (v .left-is)
+
+  pub done-below : (k : ℕ) → s < 2 ^ k → trailingZeros 32 left < k
+  done-below k h = item-below s (v .from) left ne (v .fits) (v .left-is) k h
+
+  pub done-less : bitAnd left (left - 1) < left
+  done-less = left-falls s (v .from) left ne (v .fits) (v .left-is)
+
+  -- a turn: Q is what P became
+  pub done-more : {Q : ℕ → Type 0} → trailingZeros 32 left < n → Q (trailingZeros 32 left + 1) → Done n s Q (bitAnd left (left - 1))
+  done-more h q = record {
+    from = trailingZeros 32 left + 1;
+    in-range = omega arith;
+    fits = lt-of-le-of-lt (and-le-l left (left - 1)) (v .fits);
+    left-is = left-less s (v .from) left ne (v .fits) (v .left-is);
+    so-far = q;
+  }
+
+-- none from a to b is an item
+gap
+    : (s : ℕ) {P : ℕ → Type 0} → ((i : ℕ) → member s i ≡ false → P i → P (i + 1)) → (a b : ℕ) → a ≤ b → ((i : ℕ) → a ≤ i → i < b → member s i ≡ false)
+    → P a → P b
+gap s skips a zero h none p = let e : a ≡ 0 = omega arith in rw e at p
+gap s skips a (suc b) h none p =
+    by-le a b (λ l. rw (add-one b) at (skips b (none b l (omega arith)) (gap s skips a b l (λ i x y. none i x (omega arith)) p)))
+    (λ l. let e : a ≡ suc b = omega arith in rw e at p)
+
+module _ {n s : ℕ} {P : ℕ → Type 0} {left : ℕ} (skips : (i : ℕ) → member s i ≡ false → P i → P (i + 1)) (v : Done n s P left) where
+  -- at the end all are done
+  pub done-over : left ≡ 0 → P n
+  done-over z =
+      gap s skips (v .from) n (v .in-range) (λ i x y. sym (v .left-is .behind i x) ∙ ap (λ (k : ℕ). member k i) z ∙ member-none i) (v .so-far)
+
+  module _ (ne : left ≡ 0 → ⊥) where
+    none-before : (i : ℕ) → v .from ≤ i → i < trailingZeros 32 left → member s i ≡ false
+    none-before = passed-over s (v .from) left ne (v .fits) (v .left-is)
+
+    -- those before a turn's item are done
+    pub done-before : P (trailingZeros 32 left)
+    done-before = gap s skips (v .from) (trailingZeros 32 left) (item-behind s (v .from) left ne (v .fits) (v .left-is)) none-before (v .so-far)
+
+    -- the first that is left stands behind the n
+    pub done-past : n ≤ trailingZeros 32 left → P n
+    done-past h = gap s skips (v .from) n (v .in-range) (λ i x y. none-before i x (omega arith)) (v .so-far)

@@ -48,21 +48,6 @@ pub row-more
     → Filled false 7 (knows known p) (u + 1) (set row u (getD known (7 * at + u) false))
 row-more known {at} {p} u row e h l w = filled-put false 7 (knows known p) u row (getD known (7 * at + u) false) l (known-at known u e h (omega arith)) w
 
-pub only-in : {at u : ℕ} → at ≡ u → at < 7 → set (replicate 7 false) at true ≡ onlyVoter u
-unfolding onlyVoter
-only-in {at} {u} e h =
-    ext-getD false (set (replicate 7 false) at true) (listed 7 (eqb u)) (length-set (replicate 7 false) at true ∙ sym (length-listed 7 (eqb u)))
-    (λ k l. let kl : k < 7 = rw (length-set (replicate 7 false) at true) at l in
-    rw (listed-at 7 k (eqb u) false kl)
-    (by-eq k at (λ q. rw (q, e, getD-set-same (replicate 7 false) u true false (omega arith), eq-eqb u u refl))
-    (λ ne. getD-set-other (replicate 7 false) at k true false ne ∙ getD-replicate 7 k false false kl ∙ sym (ne-eqb u k (λ z. ne (sym z ∙ sym e))))))
-
-pub only-out : {at u : ℕ} → at ≡ u → 7 ≤ at → replicate 7 false ≡ onlyVoter u
-unfolding onlyVoter
-only-out {at} {u} e h =
-    ext-getD false (replicate 7 false) (listed 7 (eqb u)) (sym (length-listed 7 (eqb u)))
-    (λ k l. getD-replicate 7 k false false l ∙ sym (ne-eqb u k (λ z. omega arith)) ∙ sym (listed-at 7 k (eqb u) false l))
-
 pub joined-none : (known : List Bool) (p : ℕ) (more : List Bool) → known ≡ joinUpTo 0 known p more
 unfolding joinUpTo
 joined-none known p more = refl
@@ -143,11 +128,11 @@ module _ (known : List Bool) (p : ℕ) (more : List Bool) where
   pub known-elsewhere : (q u : ℕ) → length known ≡ 112 → p < 16 → q < 16 → u < 7 → (p ≡ q → ⊥) → knows (joinVoters known p more) q u ≡ knows known q u
   known-elsewhere q u len hp hq hu ne = rw (knows-joined q u len hp hq hu, ne-eqb p q ne, or-false)
 
-  repeated-up-to : (n : ℕ) → n ≤ 7 → p < 16 → ((u : ℕ) → u < 7 → getD more u false ≡ true → knows known p u ≡ true) → joinUpTo n known p more ≡ known
+  repeated-up-to : (n : ℕ) → n ≤ 7 → p < 16 → ((u : ℕ) → u < n → getD more u false ≡ true → knows known p u ≡ true) → joinUpTo n known p more ≡ known
   unfolding joinUpTo
   repeated-up-to zero h hp all = refl
   repeated-up-to (suc n) h hp all =
-      rw (repeated-up-to n (omega arith) hp all, same (getD more n false) (all n (omega arith)), set-getD known (7 * p + n) false)
+      rw (repeated-up-to n (omega arith) hp (λ u l. all u (omega arith)), same (getD more n false) (all n (omega arith)), set-getD known (7 * p + n) false)
     where
       same : (m : Bool) → (m ≡ true → knows known p n ≡ true) → (getD known (7 * p + n) false || m) ≡ getD known (7 * p + n) false
       same true a = rw (known-is known p n hp (omega arith), a refl)
@@ -189,6 +174,30 @@ knows-only me u h = listed-at 7 u (eqb me) false h
 pub length-onlyVoter : (me : ℕ) → length (onlyVoter me) ≡ 7
 unfolding onlyVoter
 length-onlyVoter me = length-listed 7 (eqb me)
+
+-- joined: those before it join nobody, and those behind it nobody more
+module _ (known : List Bool) (p u : ℕ) (hp : p < 16) where
+  alone-before : (n : ℕ) → n ≤ 7 → n ≤ u → joinUpTo n known p (onlyVoter u) ≡ known
+  alone-before n h l =
+      repeated-up-to known p (onlyVoter u) n h hp (λ v b e. clash e (knows-only u v (omega arith) ∙ ne-eqb u v (λ z. omega arith)))
+
+  alone-behind : (n : ℕ) → n ≤ 7 → u < n → joinUpTo n known p (onlyVoter u) ≡ set known (7 * p + u) true
+  unfolding joinUpTo
+  alone-behind zero h l = absurd (let z : ⊥ = omega arith in z)
+  alone-behind (suc n) h l =
+      by-eq u n
+      (λ e. rw (← e, alone-before u (omega arith) (omega arith), knows-only u u (omega arith), eq-eqb u u refl, or-true))
+      (λ ne. rw (alone-behind n (omega arith) (omega (arith, ne)), knows-only u n (omega arith), ne-eqb u n ne, or-false, set-getD))
+
+-- as the code joins it; `v` is the voter as an index
+module _ (known : List Bool) {at p v u : ℕ} (e : at ≡ p) (f : v ≡ u) (h : at ≤ 15) where
+  pub joined-one : v ≤ 6 → set known (7 * at + v) true ≡ joinVoters known p (onlyVoter u)
+  unfolding joinVoters
+  joined-one l = rw (lt-ltb p 16 (omega arith), alone-behind known p u (omega arith) 7 (omega arith) (omega arith), e, f)
+
+  pub joined-nobody : 6 < v → known ≡ joinVoters known p (onlyVoter u)
+  unfolding joinVoters
+  joined-nobody l = rw (lt-ltb p 16 (omega arith), alone-before known p u (omega arith) 7 (omega arith) (omega arith))
 
 -- one voter of a row beside those known of place p
 pub all-known-at

@@ -123,10 +123,6 @@ pub length-marked : (row : List ℕ) (p : ℕ) (m : Mark) → length (markedRow 
 unfolding markedRow
 length-marked row p m = length-set row p (markNumber m + 8 * (getD row p 0 / 8))
 
-pub length-noted : (row : List ℕ) (p : ℕ) (d : Verdict) → length (notedRow row p d) ≡ length row
-unfolding notedRow
-length-noted row p d = length-set row p (getD row p 0 % 8 + 8 * verdictNumber d)
-
 -- ---- as the code reads it; `at` is the place as an index
 
 pub said-out : (row : List ℕ) {at p : ℕ} → at ≡ p → 15 < at → noVote ≡ voteAt (votesFrom row) p

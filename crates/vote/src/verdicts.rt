@@ -1,13 +1,10 @@
 // Verdicts at a site.
 ghost use mathlib.Core.Path.{_≡_};
 ghost use Prim.Native.Nat.{_+_, _*_, _%_};
-ghost use mathlib.Core.List.{[]};
-ghost use Rattle.vote.specs.Data.{requestOf};
-ghost use Rattle.vote.specs.Verdicts.{verdictDue, stampsWritten, valuesWritten, stampsRuled, valuesRuled};
+ghost use Rattle.vote.specs.Verdicts.{verdictDue};
 ghost use Rattle.vote.specs.Notes.{notesRuled};
 ghost use Rattle.vote.specs.Numbers.{verdictNumber, notesFrom, notedRow, ruledRow};
 use crate::consider::is_deferred;
-use crate::data::Head;
 use crate::data::Mark;
 use crate::data::Verdict;
 use crate::numbers::said_at;
@@ -27,44 +24,6 @@ pub fn verdict_due<'a>(oks: &'a [bool; 112], others: &'a [bool; 112], n: u8, p: 
         return Verdict::Rejected;
     }
     Verdict::Open
-}
-
-// Writes each update item of q, whose new values are `news`, whose copy stamp is smaller than q's.
-pub fn write_copy<'a>(
-    stamps: &'a mut [u64; 24],
-    values: &'a mut [i32; 24],
-    q: Head,
-    news: &'a [i32; 24],
-)
-    ensures stamps { λ _. ⌜ now (stamps .exit) ≡ stampsWritten (now (stamps .entry)) (requestOf q [] (now (news .entry))) ⌝ }
-    ensures values { λ _. ⌜ now (values .exit) ≡ valuesWritten (now (stamps .entry)) (requestOf q [] (now (news .entry))) (now (values .entry)) ⌝ }
-{
-    let mut i: usize = 0;
-    while i < 24 {
-        if sets::has(q.update, i) && stamps[i] < q.stamp {
-            stamps[i] = q.stamp;
-            values[i] = news[i];
-        }
-        i += 1;
-    }
-}
-
-// A verdict of acceptance writes the request q, whose new values are `news`.
-pub fn write_ruled<'a>(
-    v: Verdict,
-    stamps: &'a mut [u64; 24],
-    values: &'a mut [i32; 24],
-    q: Head,
-    news: &'a [i32; 24],
-)
-    ensures stamps { λ _. ⌜ now (stamps .exit) ≡ stampsRuled v (now (stamps .entry)) (requestOf q [] (now (news .entry))) ⌝ }
-    ensures values { λ _. ⌜ now (values .exit) ≡ valuesRuled v (now (stamps .entry)) (requestOf q [] (now (news .entry))) (now (values .entry)) ⌝ }
-{
-    match v {
-        Verdict::Open => {}
-        Verdict::Accepted => write_copy(stamps, values, q, news),
-        Verdict::Rejected => {}
-    }
 }
 
 // The number of what is said, with the verdict v.

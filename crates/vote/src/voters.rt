@@ -19,16 +19,19 @@ pub fn voters_of(known: &[bool; 112], p: u8) -> [bool; 7]
     voters
 }
 
-// The voter u alone.
-pub fn only_voter(u: u8) -> [bool; 7]
-    ensures { λ r. ⌜ r ≡ onlyVoter u ⌝ }
+// Joins voter u of place p to the known ones; nothing changes where there is no such place or voter.
+pub fn join_voter(known: &mut [bool; 112], p: u8, u: u8)
+    ensures { λ _. ⌜ now (known .exit) ≡ joinVoters (now (known .entry)) p (onlyVoter u) ⌝ }
 {
-    let mut voters = [false; 7];
-    let at = kit::index(u);
-    if at < 7 {
-        voters[at] = true;
+    let at = kit::index(p);
+    if 15 < at {
+        return;
     }
-    voters
+    let v = kit::index(u);
+    if 6 < v {
+        return;
+    }
+    known[7 * at + v] = true;
 }
 
 // Joins these voters of place p to the known ones.

@@ -13,8 +13,7 @@ use crate::data::Verdict;
 use crate::data::Vote;
 use crate::numbers::mark_number;
 use crate::queue::join_queue;
-use crate::voters::join_voters;
-use crate::voters::only_voter;
+use crate::voters::join_voter;
 
 // What a site has said of the request at place p; nothing of a place above 15.
 pub fn vote_at(votes: [Vote; 16], p: u8) -> Vote
@@ -63,12 +62,11 @@ pub fn cast_vote<'a>(
     ensures others { λ _. ⌜ now (others .exit) ≡ othersVoted me (now (others .entry)) p m ⌝ }
 {
     put_mark(votes, p, m);
-    let own = only_voter(me);
     if is_ok(m) {
-        join_voters(oks, p, &own);
+        join_voter(oks, p, me);
         return;
     }
-    join_voters(others, p, &own);
+    join_voter(others, p, me);
 }
 
 // The site defers the request at place p, which joins the end of its queue of `waiting`; how many wait then.

@@ -1,6 +1,7 @@
 -- Laws of the walk, each family in a file of its own.
 pub mod Elements
 mod Stored
+mod WrittenItems
 pub mod TakenApart
 mod Turns
 mod Hearings

@@ -12,13 +12,12 @@ use lib.ListN.{length, getD, set, replicate, length-set, length-replicate, List�
 use lib.Seq.{getD-set-same, getD-set-other}
 use Rattle.kit.specs.Lists.{listed}
 use Rattle.sets.specs.Sets.{member}
-use Rattle.kit.proofs.Bools.{by-eq, by-lt}
-use Rattle.kit.proofs.Listings.{Filled, filled-put, filled-end, length-listed, listed-at, listed-same, listed-of}
-use Rattle.kit.proofs.Turns.{listed-is}
+use Rattle.kit.proofs.Bools.{by-eq, by-lt, of-cond}
+use Rattle.kit.proofs.Listings.{Filled, filled-put, filled-end, length-listed, listed-at, listed-same, listed-of, replicate-at}
 use Rattle.vote.specs.Data.{noHead, noRequest, headAt, headOf, headsOf, headsFrom, requestAt, requestIn, requestOf, blankRequest}
 use Rattle.vote.specs.declared.data.Head.{Head}
 use Rattle.vote.specs.declared.data.Request.{Request}
-use Rattle.vote.proofs.Heads.{length-heads, heads-at, heads-set}
+use Rattle.vote.proofs.Heads.{length-heads, heads-set}
 use Rattle.walk.specs.Parts.{rowItem, rowAt, rowUpTo, withRow, storedRow, rowsUpTo, requestsFrom, basedOf, newsOf, namesOf, basesOf, updatesOf}
 
 -- ---- a row read: `at` is the place as an index
@@ -40,10 +39,21 @@ module _ {A : Type 0} (d : A) where
   unfolding rowAt
   row-is l p h = rw (lt-ltb p 16 h)
 
+  row-long : (l : List A) (p : ℕ) → length (rowAt d l p) ≡ 24
+  unfolding rowAt
+  row-long l p = of-cond (λ (r : List A). length r ≡ 24) (ltb p 16) (λ y. length-listed 24 (rowItem d l p)) (λ n. length-replicate 24 d)
+
   -- an item of it, read where it stands
   pub row-item : (l : List A) {at p : ℕ} (i : ℕ) → at ≡ p → at ≤ 15 → i < 24 → getD l (24 * at + i) d ≡ getD (rowAt d l p) i d
   unfolding rowItem
   row-item l {at} {p} i e b h = rw (row-is l p (omega arith), listed-at 24 i (rowItem d l p) d h, e)
+
+  -- there is none of no place, nor behind the row
+  pub row-no-place : (l : List A) {at p : ℕ} (i : ℕ) → at ≡ p → 15 < at → d ≡ getD (rowAt d l p) i d
+  row-no-place l i e h = rw (← no-row l e h) (sym (replicate-at 24 i d))
+
+  pub row-no-item : (l : List A) (p i : ℕ) → 23 < i → d ≡ getD (rowAt d l p) i d
+  row-no-item l p i h = sym (List·getD-eq-default (rowAt d l p) d {n = i} (rw (row-long l p) (omega arith)))
 
   -- a row read whole
   pub row-whole
@@ -213,26 +223,6 @@ heads-apart rs =
       listed-at 16 p (λ j. requestAt rs j .base) 0 h,
       listed-at 16 p (λ j. requestAt rs j .update) 0 h,
     ))
-
-module _ (names bases updates based : List ℕ) (news : List ℤ) where
-  -- the three rows of requests put together of them
-  pub part-names : length names ≡ 16 → namesOf (requestsFrom (headsFrom names bases updates) based news) ≡ names
-  unfolding namesOf
-  part-names l =
-      listed-is 16 (λ p. requestAt (requestsFrom (headsFrom names bases updates) based news) p .stamp) 0 names l
-      (λ p h. rw (part-at (headsFrom names bases updates) based news p h, heads-at names bases updates p h))
-
-  pub part-bases : length bases ≡ 16 → basesOf (requestsFrom (headsFrom names bases updates) based news) ≡ bases
-  unfolding basesOf
-  part-bases l =
-      listed-is 16 (λ p. requestAt (requestsFrom (headsFrom names bases updates) based news) p .base) 0 bases l
-      (λ p h. rw (part-at (headsFrom names bases updates) based news p h, heads-at names bases updates p h))
-
-  pub part-updates : length updates ≡ 16 → updatesOf (requestsFrom (headsFrom names bases updates) based news) ≡ updates
-  unfolding updatesOf
-  part-updates l =
-      listed-is 16 (λ p. requestAt (requestsFrom (headsFrom names bases updates) based news) p .update) 0 updates l
-      (λ p h. rw (part-at (headsFrom names bases updates) based news p h, heads-at names bases updates p h))
 
 -- an item of a row of stamps, compared where it stands
 module _ (based : List ℕ) {at p : ℕ} (i x : ℕ) (e : at ≡ p) (b : at ≤ 15) (h : i < 24) where

@@ -147,29 +147,29 @@ fewer-than f = omega arith
 -- ---- the verdict itself is counted
 
 count-turn
-    : (me n : ℕ) (heads : List Head) (based : List ℕ) (news : List ℤ) (s : Site) (p : ℕ) (v : Verdict) (q : Head) (row : List ℤ) (u : Site) {r : Settled} {a b : ℕ}
-    → length heads ≡ 16 → q ≡ headAt heads p → row ≡ rowAt (pos 0) news p → u ≡ ruled s (requestOf q [] row) p v
+    : (me n : ℕ) (heads : List Head) (based : List ℕ) (news : List ℤ) (s : Site) (p : ℕ) (v : Verdict) (q : Head) (u : Site) {r : Settled} {a b : ℕ}
+    → length heads ≡ 16 → q ≡ headAt heads p → u ≡ ruled s (requestOf q [] (rowAt (pos 0) news p)) p v
     → r ≡ answerOf (walked me n (requestsFrom heads based news) u 0) → a ≡ r .accepted + acceptsOf v → b ≡ r .rejected + rejectsOf v
     → _≡_ {A = Settled} (record { site = r .site; accepted = a; rejected = b }) (answerOf (resolved me n (requestsFrom heads based news) s p v))
 unfolding accepts rejects
-count-turn me n heads based news s p v q row u few hq hw hu hr ha hb =
+count-turn me n heads based news s p v q u few hq hu hr ha hb =
     let e : u ≡ ruled s (requestIn (requestsFrom heads based news) p) p v =
-    rw (part-in heads based news few p, ← hq, ← hw) (hu ∙ ruled-by s (requestOf q (rowAt 0 based p) row) [] p v) in
+    rw (part-in heads based news few p, ← hq) (hu ∙ ruled-by s (requestOf q (rowAt 0 based p) (rowAt (pos 0) news p)) [] p v) in
     rw (ha, hb, hr, e)
 
 -- with the site in its parts: the code's answer r, and what it left of what is lent
 module _ {r : code.Settled} {ts : List ℕ} {vs : List ℤ} (row : List ℕ) {queue : List ℕ} {os xs : List Bool} where
   pub count-parts
-      : (up : Bool) (last me n : ℕ) (heads : List Head) (based : List ℕ) (news : List ℤ) (k : Notes) (st : List ℕ) (va : List ℤ) (oks others : List Bool) (p : ℕ) (v : Verdict) (q : Head) (new : List ℤ)
+      : (up : Bool) (last me n : ℕ) (heads : List Head) (based : List ℕ) (news : List ℤ) (k : Notes) (st : List ℕ) (va : List ℤ) (oks others : List Bool) (p : ℕ) (v : Verdict) (q : Head)
       {u : Notes} {su : List ℕ} {vu : List ℤ} {a b : ℕ}
-      → length heads ≡ 16 → q ≡ headAt heads p → new ≡ rowAt (pos 0) news p → u ≡ notesRuled k p v → su ≡ stampsRuled v st (requestOf q [] new)
-      → vu ≡ valuesRuled v st (requestOf q [] new) va
+      → length heads ≡ 16 → q ≡ headAt heads p → u ≡ notesRuled k p v → su ≡ stampsRuled v st (requestOf q [] (rowAt (pos 0) news p))
+      → vu ≡ valuesRuled v st (requestOf q [] (rowAt (pos 0) news p)) va
       → left up last r ts vs row queue os xs ≡ answerOf (walked me n (requestsFrom heads based news) (siteOf up last su vu u oks others) 0)
       → a ≡ r .accepted + acceptsOf v → b ≡ r .rejected + rejectsOf v
       → left up last (record { waiting = r .waiting; accepted = a; rejected = b }) ts vs row queue os xs
       ≡ answerOf (resolved me n (requestsFrom heads based news) (siteOf up last st va k oks others) p v)
-  count-parts up last me n heads based news k st va oks others p v q new few hq hw hu hs hv hr ha hb =
-      count-turn me n heads based news (siteOf up last st va k oks others) p v q new _ few hq hw (ruled-parts up last st va k oks others (requestOf q [] new) p v hu hs hv) hr ha hb
+  count-parts up last me n heads based news k st va oks others p v q few hq hu hs hv hr ha hb =
+      count-turn me n heads based news (siteOf up last st va k oks others) p v q _ few hq (ruled-parts up last st va k oks others (requestOf q [] (rowAt (pos 0) news p)) p v hu hs hv) hr ha hb
 
   -- it has no more verdicts than requests that waited
   pub few-answers

@@ -3,3 +3,4 @@ mod considering;
 pub mod hearing;
 pub mod parts;
 pub mod walking;
+mod writing;

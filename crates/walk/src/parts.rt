@@ -39,7 +39,7 @@ fn stamps_at(based: &[u64; 384], p: u8) -> [u64; 24]
 }
 
 // Its new values, in the same way.
-pub(crate) fn values_at(news: &[i32; 384], p: u8) -> [i32; 24]
+fn values_at(news: &[i32; 384], p: u8) -> [i32; 24]
     ensures { λ r. ⌜ r ≡ rowAt (pos 0) (now (news .entry)) p ⌝ }
 {
     let mut row = [0i32; 24];

@@ -10,7 +10,7 @@ ghost use Rattle.walk.specs.Walking.{walked, resolved, acceptsOf, reject
 ghost use Rattle.walk.specs.Parts.{requestsFrom};
 use crate::considering::consider_at;
 use crate::parts::head_at;
-use crate::parts::values_at;
+use crate::writing::write_ruled;
 use vote::consider::is_deferral;
 use vote::consider::is_open;
 use vote::consider::mark_of;
@@ -19,7 +19,6 @@ use vote::queue::leave_queue;
 use vote::queue::queued_at;
 use vote::verdicts::rule;
 use vote::verdicts::verdict_due;
-use vote::verdicts::write_ruled;
 use vote::voting::cast_vote;
 
 // How many wait at a site after a walk, and how many requests it accepted and rejected.
@@ -139,10 +138,9 @@ pub fn resolve<'a>(
     ensures { λ r. ⌜ ((up : Bool) (last : ℕ) → left up last r (now (stamps .exit)) (now (values .exit)) (now (votes .exit)) (now (queue .exit)) (now (oks .exit)) (now (others .exit))
         ≡ answerOf (resolved me n (requestsFrom (headsFrom (now (names .entry)) (now (bases .entry)) (now (updates .entry))) (now (based .entry)) (now (news .entry))) (siteOf up last (now (stamps .entry)) (now (values .entry)) (notesFrom (now (votes .entry)) (now (queue .entry)) waiting) (now (oks .entry)) (now (others .entry))) p v)) ⌝ }
 {
-    let row = values_at(news, p);
     let fewer = rule(votes, queue, waiting, p, v);
     let q = head_at(names, bases, updates, p);
-    write_ruled(v, stamps, values, q, &row);
+    write_ruled(v, stamps, values, q, news, p);
     let later = walk(
         names,
         bases,

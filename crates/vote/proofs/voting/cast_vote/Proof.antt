@@ -13,17 +13,17 @@ use Rattle.vote.proofs.voting.cast_vote.Statement.{statement}
 use Rattle.vote.proofs.voting.cast_vote.Tie as tie
 
 module _ (me : ℕ) (known : List Bool) (p : ℕ) (m : Mark) {r : Bool} (ok : r ≡ isOk m) where
-  joins-oks : {own more : List Bool} → r ≡ true → own ≡ onlyVoter me → more ≡ joinVoters known p own → more ≡ oksVoted me known p m
+  joins-oks : {more : List Bool} → r ≡ true → more ≡ joinVoters known p (onlyVoter me) → more ≡ oksVoted me known p m
   unfolding oksVoted
-  joins-oks y mine e = rw (e, mine, ← ok, y)
+  joins-oks y e = rw (e, ← ok, y)
 
   keeps-oks : r ≡ false → known ≡ oksVoted me known p m
   unfolding oksVoted
   keeps-oks y = rw (← ok, y)
 
-  joins-others : {own more : List Bool} → r ≡ false → own ≡ onlyVoter me → more ≡ joinVoters known p own → more ≡ othersVoted me known p m
+  joins-others : {more : List Bool} → r ≡ false → more ≡ joinVoters known p (onlyVoter me) → more ≡ othersVoted me known p m
   unfolding othersVoted
-  joins-others y mine e = rw (e, mine, ← ok, y)
+  joins-others y e = rw (e, ← ok, y)
 
   keeps-others : r ≡ true → known ≡ othersVoted me known p m
   unfolding othersVoted
@@ -33,7 +33,6 @@ pub cast-vote-spec : {M : Type 1} → statement M
 cast-vote-spec =
     tie.close
     (tie.spec
-    (λ c κs. search needs)
     (λ c κs. search needs)
     (λ c κs. search needs)
     (λ c κs. search needs)

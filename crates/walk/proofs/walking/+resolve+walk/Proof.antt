@@ -32,14 +32,13 @@ use Rattle.vote.proofs.queue.leave_queue.Reads as leave-queue-reads
 use Rattle.vote.proofs.queue.queued_at.Reads as queued-at-reads
 use Rattle.vote.proofs.verdicts.rule.Reads as rule-reads
 use Rattle.vote.proofs.verdicts.verdict_due.Reads as verdict-due-reads
-use Rattle.vote.proofs.verdicts.write_ruled.Reads as write-ruled-reads
 use Rattle.vote.proofs.voting.cast_vote.Reads as cast-vote-reads
 use Rattle.walk.proofs.considering.consider_at.Reads as consider-at-reads
 use Rattle.walk.proofs.parts.head_at.Reads as head-at-reads
-use Rattle.walk.proofs.parts.values_at.Reads as values-at-reads
 use Rattle.walk.proofs.walking.one_if_accepted.Reads as one-if-accepted-reads
 use Rattle.walk.proofs.walking.one_if_rejected.Reads as one-if-rejected-reads
 use Rattle.walk.proofs.walking.rest.Reads as rest-reads
+use Rattle.walk.proofs.writing.write_ruled.Reads as write-ruled-reads
 use Rattle.walk.proofs.walking.+resolve+walk.{statement}
 use Rattle.walk.proofs.walking.+resolve+walk.Tie.{close}
 
@@ -64,8 +63,6 @@ walk-below t = and 7 walk-kinds.ps (falls 7 walk-kinds.ps _<_ μ-walk t) walk.Pr
 -- what each is told of what it calls
 abbrev resolve-sees : ℕ → resolve-lts.Claims
 resolve-sees t = (
-  values-at-reads.Asked,
-  values-at-reads.Learnt,
   rule-reads.Asked,
   rule-reads.Learnt,
   head-at-reads.Asked,
@@ -110,9 +107,6 @@ walk-sees t = (
 small : (t : ℕ) (c : resolve-lts.Start (resolve-sees t) (resolve-at t) resolve.Post) → c .args .waiting < 256
 small t c = omega arith
 
-resolve-values-at-requires : (t : ℕ) → resolve-lts.Need-values-at-requires (resolve-sees t) (resolve-at t) resolve.Post
-resolve-values-at-requires t c κs = search needs
-
 resolve-rule-requires : (t : ℕ) → resolve-lts.Need-rule-requires (resolve-sees t) (resolve-at t) resolve.Post
 resolve-rule-requires t c κs = search needs
 
@@ -123,36 +117,36 @@ resolve-write-ruled-requires : (t : ℕ) → resolve-lts.Need-write-ruled-requir
 resolve-write-ruled-requires t c κs = search needs
 
 resolve-walk-requires : (t : ℕ) → resolve-lts.Need-walk-requires (resolve-sees t) (resolve-at t) resolve.Post
-resolve-walk-requires t c κs = (omega (arith, ruled-fewer _ _ _ (c .before .before .before .before .before .before .before .before .before .before .before .rule .ensures .1 .1 .1)), tt)
+resolve-walk-requires t c κs = (omega (arith, ruled-fewer _ _ _ (c .before .before .before .before .before .before .before .before .before .before .rule .ensures .1 .1 .1)), tt)
 
 -- where the verdict was noted, before a walk that is over
 abbrev at-rule : (t : ℕ) → resolve-lts.After-walk (resolve-sees t) (resolve-at t) resolve.Post → resolve-lts.After-rule (resolve-sees t) (resolve-at t) resolve.Post
-at-rule t c = c .before .before .before .before .before .before .before .before .before .before .before .before
+at-rule t c = c .before .before .before .before .before .before .before .before .before .before .before
 
 -- the verdicts of the walk are few
 few-later : (t : ℕ) (c : resolve-lts.After-walk (resolve-sees t) (resolve-at t) resolve.Post) → c .walk .result .accepted + c .walk .result .rejected < 256
 few-later t c =
     let r = at-rule t c in
     let h = few-answers _ _ _ _ (notesFrom (r .rule .last .0) (r .rule .last .1 .0) (r .rule .result)) _ _ _ _ (c .walk .ensures) in
-    omega (arith, h, ruled-fewer _ _ _ (r .rule .ensures .1 .1 .1), small t (r .before .before .before .before))
+    omega (arith, h, ruled-fewer _ _ _ (r .rule .ensures .1 .1 .1), small t (r .before .before .before))
 
 resolve-one-if-accepted-requires : (t : ℕ) → resolve-lts.Need-one-if-accepted-requires (resolve-sees t) (resolve-at t) resolve.Post
 resolve-one-if-accepted-requires t c κs = search needs
 
-resolve-add-t35 : (t : ℕ) → resolve-lts.Need-add-t35 (resolve-sees t) (resolve-at t) resolve.Post
-resolve-add-t35 t c = omega (arith, few-later t (c .before .before), one-accepted (at-rule t (c .before .before) .before .before .before .before .args .v))
+resolve-add-t32 : (t : ℕ) → resolve-lts.Need-add-t32 (resolve-sees t) (resolve-at t) resolve.Post
+resolve-add-t32 t c = omega (arith, few-later t (c .before .before), one-accepted (at-rule t (c .before .before) .before .before .before .args .v))
 
 resolve-one-if-rejected-requires : (t : ℕ) → resolve-lts.Need-one-if-rejected-requires (resolve-sees t) (resolve-at t) resolve.Post
 resolve-one-if-rejected-requires t c κs = search needs
 
-resolve-add-t37 : (t : ℕ) → resolve-lts.Need-add-t37 (resolve-sees t) (resolve-at t) resolve.Post
-resolve-add-t37 t c = omega (arith, few-later t (c .before .before .before .before), one-rejected (at-rule t (c .before .before .before .before) .before .before .before .before .args .v))
+resolve-add-t34 : (t : ℕ) → resolve-lts.Need-add-t34 (resolve-sees t) (resolve-at t) resolve.Post
+resolve-add-t34 t c = omega (arith, few-later t (c .before .before .before .before), one-rejected (at-rule t (c .before .before .before .before) .before .before .before .args .v))
 
 resolve-returns : (t : ℕ) → resolve-lts.Need-returns (resolve-sees t) (resolve-at t) resolve.Post
 resolve-returns t c up last =
     let l = c .before .before .before .before in
     let w = l .before .before .before .before .before .before .before in
-    count-parts _ up last _ _ _ _ _ _ _ _ _ _ _ _ _ _ (length-heads _ _ _) (w .before .before .before .before .head-at .ensures) (w .before .before .before .before .before .before .before .before .values-at .ensures) (w .before .before .before .before .before .rule .ensures .1 .1 .1) (w .write-ruled .ensures .0)
+    count-parts _ up last _ _ _ _ _ _ _ _ _ _ _ _ _ (length-heads _ _ _) (w .before .before .before .head-at .ensures) (w .before .before .before .before .rule .ensures .1 .1 .1) (w .write-ruled .ensures .0)
     (w .write-ruled .ensures .1) (l .walk .ensures up last) (omega arith) (omega arith)
 
 abbrev walk-Inv-loop : walk-lts.InvT-loop
@@ -295,15 +289,14 @@ pub +resolve+walk-spec : {M : Type 1} → statement M
 +resolve+walk-spec = close μ-resolve μ-walk (λ t. resolve-lts.spec (resolve-sees t)
     (resolve-at t)
     resolve.Post
-    (resolve-values-at-requires t)
     (resolve-rule-requires t)
     (resolve-head-at-requires t)
     (resolve-write-ruled-requires t)
     (resolve-walk-requires t)
     (resolve-one-if-accepted-requires t)
-    (resolve-add-t35 t)
+    (resolve-add-t32 t)
     (resolve-one-if-rejected-requires t)
-    (resolve-add-t37 t)
+    (resolve-add-t34 t)
     (resolve-returns t))
     λ t. walk-lts.spec (walk-sees t)
     (walk-at t)

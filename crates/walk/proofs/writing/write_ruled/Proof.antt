@@ -1,15 +1,15 @@
--- `vote::verdicts::write_ruled` meets its contract: an acceptance writes, the others leave the copy.
+-- `walk::writing::write_ruled` meets its contract: an acceptance writes, the others leave the copy.
 use mathlib.Core.Path.{_≡_}
 use mathlib.Core.List.{List}
 use Prim.Native.Nat.{ℕ}
 use borrow.Author.Needs.{needs}
 use lib.IntN.{ℤ}
 use Rattle.vote.specs.Verdicts.{stampsWritten, valuesWritten, stampsRuled, valuesRuled}
 use Rattle.vote.specs.declared.data.Request.{Request}
 use Rattle.vote.specs.declared.data.Verdict.{Verdict}
 use Rattle.vote.specs.declared.data.Verdict.the-variants as verdict
-use Rattle.vote.proofs.verdicts.write_ruled.Statement.{statement}
-use Rattle.vote.proofs.verdicts.write_ruled.Tie as tie
+use Rattle.walk.proofs.writing.write_ruled.Statement.{statement}
+use Rattle.walk.proofs.writing.write_ruled.Tie as tie
 
 module _ {d : Verdict} (e : d ≡ verdict.Accepted) (held : List ℕ) (q : Request) where
   rules-stamps : {l : List ℕ} → l ≡ stampsWritten held q → l ≡ stampsRuled d held q
