@@ -1,15 +1,12 @@
 -- Room for bytes, what they leave of it, and bytes written into it.
-use mathlib.Core.Path.{_≡_, refl, sym, ap, _∙_}
+use mathlib.Core.Path.{_≡_, refl, _∙_}
 use mathlib.Core.Bool.{true, false}
-use mathlib.Core.List.{List, [], _∷_, _++_}
+use mathlib.Core.List.{List, [], _∷_}
 use Prim.Native.Nat.{ℕ, _+_, _-_, _≤_, _<_}
-use native.Mathlib.Nat.{le-antisymm}
-use native.Mathlib.Numerals.{add-one}
 use native.Mathlib.Omega.{arith}
 use borrow.Author.Tests.{le-leb, lt-leb}
-use lib.ListN.{length, getD, take, drop, set}
-use lib.Seq.{paste, paste-suc, take-all}
-use Rattle.kit.specs.Lists.{put, placed}
+use lib.ListN.{length}
+use Rattle.kit.specs.Lists.{placed}
 use Rattle.kit.proofs.Bools.{by-le}
 use Rattle.kit.proofs.Puts.{put-none, placed-in, placed-out}
 use Rattle.plans.specs.Answers.{refusal}
@@ -33,24 +30,11 @@ room-rest left a n h =
     (λ l. let e : left - a - n ≡ left - (a + n) = omega arith in rw (room-in (left - a) n l, room-in left (a + n) (omega arith), e) refl)
     (λ l. rw (room-out (left - a) n l, room-out left (a + n) (omega arith)) refl)
 
--- ---- bytes copied to a place: after k turns the first k stand there
+-- ---- no bytes written change nothing
 
--- none change nothing
 pub placed-none : (d : List ℕ) (at : ℕ) → placed d at [] ≡ d
 placed-none d at =
     by-le (at + length {A = ℕ} []) (length d) (λ h. placed-in d at [] h ∙ put-none d at) (λ h. placed-out d at [] h)
-
-pub copy-turn : (d₀ d : List ℕ) (at : ℕ) (s : List ℕ) (k : ℕ) → k < length s → at + length s ≤ length d₀ → d ≡ paste d₀ at s k
-    → set d (at + k) (getD s k 0) ≡ paste d₀ at s (k + 1)
-copy-turn d₀ d at s k h i e =
-    ap (λ (l : List ℕ). set l (at + k) (getD s k 0)) e ∙ paste-suc d₀ at s k 0 (omega arith) h ∙ ap (paste d₀ at s) (sym (add-one k))
-
-pub copy-end : (d₀ d : List ℕ) (at : ℕ) (s : List ℕ) (k : ℕ) → at + length s ≤ length d₀ → k ≤ length s → length s ≤ k → d ≡ paste d₀ at s k → d ≡ placed d₀ at s
-unfolding put
-copy-end d₀ d at s k i h l e =
-    e ∙ ap (paste d₀ at s) (le-antisymm h l)
-    ∙ ap (λ (r : List ℕ). take at d₀ ++ r ++ drop (at + length s) d₀) (take-all (length s) s (omega arith))
-    ∙ sym (placed-in d₀ at s i)
 
 -- ---- the line of a record that is cut, where any bytes are left
 

@@ -11,5 +11,6 @@ pub mod Changes
 pub mod Turns
 pub mod Queues
 pub mod Puts
+pub mod Copies
 pub mod Fields
 pub mod Signs

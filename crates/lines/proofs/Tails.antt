@@ -3,14 +3,12 @@ use mathlib.Core.Path.{_≡_, refl, sym, ap, ap₂, _∙_}
 use mathlib.Core.Bool.{Bool, true, _&&_}
 use mathlib.Core.List.{List, [], _∷_, _++_, append-assoc}
 use Prim.Native.Nat.{ℕ, _+_, _-_, _^_, _≤_, _<_}
-use native.Mathlib.Nat.{le-antisymm}
-use native.Mathlib.Numerals.{add-one}
 use native.Mathlib.Omega.{arith}
 use borrow.Author.Tests.{eqb-true}
 use lib.Dec.{eqb}
 use lib.IntN.{ℤ, natAbs}
-use lib.ListN.{length, take, drop, getD, set, length-append, length-set, take-append-drop}
-use lib.Seq.{paste, paste-zero, paste-suc, length-take-le, take-at, drop-append-add, drop-drop}
+use lib.ListN.{length, take, drop, set, length-append, take-append-drop}
+use lib.Seq.{length-take-le, take-at, drop-append-add, drop-drop}
 use mir.Syntax.{w64}
 use mir.Val.{SFits, toZ, ofZ}
 use mir.Facts.{toZ-ofZ}
@@ -56,37 +54,6 @@ module _ (second accepted rejected : ℕ) (r : Bool) (e : r ≡ (eqb second 0 &&
 
     pub zeros-back : (q : ℕ) (d₁ : List ℕ) → Wrote d at (48 ∷ 32 ∷ 48 ∷ 32 ∷ 48 ∷ 10 ∷ []) q d₁ → Wrote d at (backOf second accepted rejected) q d₁
     zeros-back q d₁ w = rw zeros-are w
-
--- ---- eight bytes: the first k stand in the buffer
-
-pub record Copied (d₀ : List ℕ) (at : ℕ) (s : List ℕ) (k : ℕ) (d : List ℕ) : Type 0 where
-  pub in-range : k ≤ 8
-  pub room : at + 8 ≤ length d₀
-  pub enough : 8 ≤ length s
-  pub long : length d ≡ length d₀
-  pub bytes : d ≡ paste d₀ at s k
-
-pub copied-start : (d : List ℕ) (at : ℕ) (s : List ℕ) → at + 8 ≤ length d → 8 ≤ length s → Copied d at s 0 d
-copied-start d at s h l = record { in-range = omega arith; room = h; enough = l; long = refl; bytes = paste-zero d at s }
-
-pub copied-more : (d₀ : List ℕ) (at : ℕ) (s : List ℕ) (k : ℕ) (d : List ℕ) → Copied d₀ at s k d → k < 8 → Copied d₀ at s (k + 1) (set d (at + k) (getD s k 0))
-copied-more d₀ at s k d c h =
-    record {
-      in-range = omega arith;
-      room = c .room;
-      enough = c .enough;
-      long = length-set d (at + k) (getD s k 0) ∙ c .long;
-      bytes =
-          ap (λ (l : List ℕ). set l (at + k) (getD s k 0)) (c .bytes)
-          ∙ paste-suc d₀ at s k 0 (omega (arith, c .room)) (omega (arith, c .enough))
-          ∙ ap (paste d₀ at s) (sym (add-one k));
-    }
-
-pub copied-all : (d₀ : List ℕ) (at : ℕ) (s : List ℕ) (k : ℕ) (d : List ℕ) → Copied d₀ at s k d → 8 ≤ k → d ≡ put d₀ at (take 8 s)
-unfolding put
-copied-all d₀ at s k d c h =
-    c .bytes ∙ ap (paste d₀ at s) (le-antisymm (c .in-range) h)
-    ∙ ap (λ (m : ℕ). take at d₀ ++ take 8 s ++ drop (at + m) d₀) (sym (length-take-le 8 s (c .enough)))
 
 -- ---- a piece put over the end of another
 

@@ -1,12 +1,12 @@
 -- `lines::write_eight` meets its contract. The invariant: the first i bytes stand in the buffer.
 use Prim.Native.Nat.{_-_}
 use borrow.Author.Needs.{needs}
-use Rattle.lines.proofs.Tails.{Copied, copied-start, copied-more, copied-all}
+use Rattle.kit.proofs.Copies.{Copied, copied-start, copied-more, copied-all}
 use Rattle.lines.proofs.write_eight.Statement.{statement}
 use Rattle.lines.proofs.write_eight.Tie as tie
 
 abbrev Inv-loop : tie.InvT-loop
-Inv-loop out₀ at digits i₀ out i = Copied out₀ at digits i out
+Inv-loop out₀ at digits i₀ out i = Copied 8 out₀ at digits i out
 
 abbrev μ-loop : tie.MeasureT-loop
 μ-loop out₀ at digits i₀ out i = 8 - i
