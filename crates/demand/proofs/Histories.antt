@@ -1,18 +1,16 @@
 -- The table's history as a ledger's: what is in the one is in the other.
 use mathlib.Core.Path.{_≡_, refl, sym, ap, _∙_, subst}
-use mathlib.Core.Bool.{true, false}
-use mathlib.Core.List.{List, [], _∷_, _++_, append-assoc, append-nil, List·Memᴰ, List·Memᴰ·append-cases, Memᴰ·append-left, Memᴰ·append-right}
-use mathlib.Core.Logic.{_⊎_, inl, inr, ⊎-elim}
+use mathlib.Core.List.{List, [], _∷_, _++_, append-assoc, append-nil, List·Memᴰ·append-cases, Memᴰ·append-left, Memᴰ·append-right}
+use mathlib.Core.Logic.{_⊎_, ⊎-elim}
 use Prim.Native.Nat.{ℕ}
 use native.Mathlib.Omega.{arith}
 use lib.IntN.{ℤ}
 use Rattle.kit.specs.Lists.{_among_}
 use Rattle.kit.proofs.Members.{here, further, in-none, in-either, not-front}
-use Rattle.ledger.specs.Ledger.{begin, ok, against, accept, reject, Request as LedgerRequest, Event as LedgerEvent, History as LedgerHistory}
+use Rattle.ledger.specs.Ledger.{begin, accept, reject, Request as LedgerRequest, Event as LedgerEvent, History as LedgerHistory}
 use Rattle.tied.specs.Events.{voteEvent, ruleEvent, eventOf, eventsOf}
 use Rattle.tied.specs.Views.{requestOf}
 use Rattle.vote.specs.Data.{requestAt}
-use Rattle.vote.specs.declared.data.Mark.{Mark}
 use Rattle.vote.specs.declared.data.Mark.the-variants as mark
 use Rattle.vote.specs.declared.data.Request.{Request}
 use Rattle.vote.specs.declared.data.Verdict.{Verdict}

@@ -4,14 +4,13 @@ use mathlib.Core.Bool.{Bool, true, false, cond}
 use mathlib.Core.List.{List, [], _∷_, _++_, List·Memᴰ·append-cases, Memᴰ·append-left, Memᴰ·append-right}
 use mathlib.Core.Logic.{⊎-elim}
 use Prim.Native.Nat.{ℕ, _-_}
-use native.Mathlib.Omega.{arith}
 use borrow.Author.Tests.{eqb-true}
 use lib.Dec.{eqb}
-use lib.IntN.{ℤ, pos}
+use lib.IntN.{ℤ}
 use lib.ListN.{length, set, length-set, List·getD-eq-default}
 use lib.Seq.{getD-set-same, getD-set-other}
 use Rattle.kit.specs.Lists.{_among_}
-use Rattle.kit.proofs.Bools.{of-cond, by-test, by-eq, by-lt}
+use Rattle.kit.proofs.Bools.{clash, by-test, by-eq, by-lt}
 use Rattle.kit.proofs.Members.{here, in-none, in-either, not-front}
 use Rattle.ledger.specs.Ledger.{begin, Valid, next, History as LedgerHistory}
 use Rattle.record.specs.declared.Step.{Step}
@@ -20,10 +19,9 @@ use Rattle.table.specs.declared.data.Table.{Table}
 use Rattle.vote.specs.Data.{noRequest, blankRequest, requestAt}
 use Rattle.vote.specs.declared.data.Request.{Request}
 use Rattle.vote.specs.declared.data.Verdict.{Verdict}
-use Rattle.steps.specs.Answers.{Done}
-use Rattle.steps.specs.Numbers.{freePlace, placeOf, beginNumber, tellNumber, deliverNumber, dropNumber, downNumber, upNumber, retireNumber, readNumber}
-use Rattle.steps.specs.Steps.{entered, begun, told, delivered, dropped, putUp, retired, readings, unlessRefused, advanced}
-use Rattle.steps.specs.declared.answer.Stepped.{Stepped}
+use Rattle.steps.specs.Numbers.{freePlace, placeOf, beginNumber, deliverNumber}
+use Rattle.steps.specs.Steps.{entered, begun, told, delivered, dropped, putUp, retired, unlessRefused, advanced}
+use Rattle.steps.proofs.Each.{each-step}
 use Rattle.tied.specs.Views.{requestOf}
 use Rattle.demand.specs.Nights.{Event, began, ruled, History, allSaid, inBegin, inDeliver}
 use Rattle.demand.proofs.Histories.{ledgerEvent, ledgerOf, event-in, said-of}
@@ -80,27 +78,20 @@ module _ (t : Table) (a : Step) (h : History) (b : Begun (t .requests) h) where
 
   -- the other steps store nothing
   begun-other : (g : History) → eqb (a .code) 1 ≡ false → Begun (advanced t a .table .requests) (g ++ h)
-  unfolding advanced told delivered dropped putUp retired readings
+  unfolding told delivered dropped putUp retired
   begun-other g e =
-      rw e
-      (of-cond Kept (eqb (a .code) 2) (λ e. either (tellNumber t a) (told t a) old)
-      (λ e. of-cond Kept (eqb (a .code) 3) (λ e. either (deliverNumber t a) (delivered t a) old)
-      (λ e. of-cond Kept (eqb (a .code) 4) (λ e. either (dropNumber t a) (dropped t a) old)
-      (λ e. of-cond Kept (eqb (a .code) 5) (λ e. either (downNumber t a) (putUp false t a) old)
-      (λ e. of-cond Kept (eqb (a .code) 6) (λ e. either (upNumber t a) (putUp true t a) old)
-      (λ e. of-cond Kept (eqb (a .code) 7)
-      (λ e. either (retireNumber t a) (retired t a) (begun-set (t .requests) (g ++ h) (placeOf t (a .stamp)) blankRequest old (λ used. absurd (used (blank-there (t .requests) (placeOf t (a .stamp)))))))
-      (λ e. of-cond Kept (eqb (a .code) 8) (λ e. either (readNumber t a) (readings t a) old)
-      (λ e. old))))))))
-    where
-      Kept : Stepped → Type 0
-      Kept r = Begun (r .table .requests) (g ++ h)
-
-      old : Begun (t .requests) (g ++ h)
-      old = begun-more (t .requests) g h b
-
-      either : (number : ℕ) (d : Done) → Begun (d .table .requests) (g ++ h) → Kept (unlessRefused number d t)
-      either number d e = of-cond Kept (eqb number 0) (λ z. e) (λ z. old)
+      let old : Begun (t .requests) (g ++ h) = begun-more (t .requests) g h b in
+      let p : ℕ = placeOf t (a .stamp) in
+      each-step t a (λ u. Begun (u .requests) (g ++ h)) (record {
+        stays = old;
+        begins = λ y. clash y e;
+        tells = λ _. old;
+        delivers = λ _ _. old;
+        drops = λ _. old;
+        downs = λ _. old;
+        ups = λ _. old;
+        retires = λ _. begun-set (t .requests) (g ++ h) p blankRequest old (λ used. absurd (used (blank-there (t .requests) p)));
+      })
 
   pub begun-next : Begun (advanced t a .table .requests) (cond (eqb (a .code) 1) (inBegin t a) (cond (eqb (a .code) 3) (inDeliver t a) []) ++ h)
   unfolding advanced

@@ -1,15 +1,15 @@
 -- Each step of a sound table is a run of ledger events: those that `happened` says.
 use mathlib.Core.Path.{_≡_, refl, sym, ap, _∙_, subst}
-use mathlib.Core.Bool.{Bool, true, false, not, cond}
-use mathlib.Core.List.{List, [], _∷_, _++_, append-nil}
-use Prim.Native.Nat.{ℕ, suc, _+_, _-_, _^_, _≤_, _<_}
+use mathlib.Core.Bool.{Bool, true, false, cond}
+use mathlib.Core.List.{[], _∷_, _++_}
+use Prim.Native.Nat.{ℕ, suc, _+_, _-_, _^_, _<_}
 use native.Mathlib.Omega.{arith}
-use borrow.Author.Tests.{eqb-true, eqb-false}
+use borrow.Author.Tests.{eqb-true}
 use lib.Dec.{eqb}
 use lib.IntN.{ℤ}
 use lib.ListN.{getD}
 use lib.Seq.{getD-set-same, getD-set-other}
-use Rattle.kit.proofs.Bools.{of-cond, by-test}
+use Rattle.kit.proofs.Bools.{clash, by-test}
 use Rattle.kit.proofs.Listings.{listed-at}
 use Rattle.ledger.specs.Ledger.{begin, Proper, History as LedgerHistory}
 use Rattle.ledger.specs.View.{Goes}
@@ -17,14 +17,11 @@ use Rattle.ledger.proofs.Link.{goes-stay, goes-then}
 use Rattle.plans.specs.Changes.{stored, forgotten}
 use Rattle.record.specs.declared.Step.{Step}
 use Rattle.sets.specs.Sets.{member}
-use Rattle.stamps.specs.Issue.{issued}
 use Rattle.stamps.specs.Stamps.{timeOf, digitOf}
-use Rattle.stamps.specs.declared.Issue.{Issue}
 use Rattle.stamps.specs.declared.Issue.the-variants as issue
 use Rattle.stamps.proofs.Laws.{GivenAt, given-facts, given-digit, given-time, given-larger}
 use Rattle.table.specs.Meaning.{ShapedTable, Sound}
 use Rattle.table.specs.Places.{siteAt, messageAt, placeAt, withSite}
-use Rattle.table.specs.Sound.{soundTable}
 use Rattle.table.specs.declared.data.Table.{Table}
 use Rattle.table.proofs.Nothing.{Nothing, nothing-means}
 use Rattle.table.proofs.Places.{site-back, site-same}
@@ -32,18 +29,18 @@ use Rattle.vote.specs.Data.{isOpen, isUnmarked, noVote, noRequest, voteAt, with
 use Rattle.vote.specs.declared.data.Request.{Request}
 use Rattle.vote.specs.declared.data.Site.{Site}
 use Rattle.upkeep.proofs.Begins.{begun-entered}
-use Rattle.steps.specs.Answers.{Done, refusedAs}
-use Rattle.steps.specs.Numbers.{freePlace, freeMessage, placeOf, beginNumber, tellNumber, deliverNumber, dropNumber, downNumber, upNumber, retireNumber, readNumber}
-use Rattle.steps.specs.Steps.{issueFor, entered, begun, told, delivered, dropped, putUp, retired, readings, unlessRefused, advanced, stepped}
-use Rattle.steps.specs.declared.answer.Stepped.{Stepped}
-use Rattle.steps.proofs.Allowed.{site-index, free-place, free-message, named-place, message-there, may-begin, may-tell, may-deliver, may-drop, may-down, may-up, may-retire, given-of}
+use Rattle.steps.specs.Answers.{Done}
+use Rattle.steps.specs.Numbers.{freePlace, freeMessage, placeOf, beginNumber, tellNumber, deliverNumber, dropNumber, retireNumber}
+use Rattle.steps.specs.Steps.{issueFor, entered, begun, told, delivered, dropped, putUp, retired, unlessRefused, advanced}
+use Rattle.steps.proofs.Allowed.{site-index, free-place, named-place, message-there, may-begin, may-deliver, may-down, may-up, may-retire, given-of}
+use Rattle.steps.proofs.Each.{each-step}
 use Rattle.steps.proofs.Upkeep.{Well}
 use Rattle.walk.specs.Hearing.{takenUp}
 use Rattle.tied.specs.Events.{eventsOf}
 use Rattle.tied.specs.Views.{requestOf, viewOf}
 use Rattle.tied.proofs.Silences.{mute-up, mute-goes, message-goes}
 use Rattle.tied.proofs.Tables.{Forgets, proper-of, enteredAt, enters-of, begin-goes, retires-of, retire-goes}
-use Rattle.demand.specs.Nights.{began, History, allSaid, inBegin, inDeliver, happened}
+use Rattle.demand.specs.Nights.{began, History, allSaid, inBegin, inDeliver}
 use Rattle.demand.proofs.Histories.{ledgerOf, ledger-append, all-ledger}
 use Rattle.demand.proofs.Turns.{taken-went, received-went}
 
@@ -61,9 +58,6 @@ module _ (t : Table) (a : Step) (w : Well t) where
   refused-or number d h go = by-test (eqb number 0)
       (λ e. rw e (go (eqb-true number 0 e)))
       (λ e. rw e stays)
-
-  quietly-or : (number : ℕ) (d : Done) → (number ≡ 0 → To (d .table) []) → To (unlessRefused number d t .table) []
-  quietly-or number d go = of-cond (λ (r : Stepped). To (r .table) []) (eqb number 0) (λ e. go (eqb-true number 0 e)) (λ e. stays)
 
   told-goes : tellNumber t a ≡ 0 → To (told t a .table) []
   unfolding told ledgerOf
@@ -198,28 +192,22 @@ module _ (t : Table) (a : Step) (w : Well t) where
 
   -- ---- the step
 
+  others : eqb (a .code) 1 ≡ false → eqb (a .code) 3 ≡ false → To (advanced t a .table) []
+  others e f = each-step t a (λ u. To u []) (record {
+    stays = stays;
+    begins = λ y. clash y e;
+    tells = told-goes;
+    delivers = λ y. clash y f;
+    drops = dropped-goes;
+    downs = λ z. put-up-goes false (site-index t (a .site) (may-down t a z) .0);
+    ups = λ z. put-up-goes true (site-index t (a .site) (may-up t a z) .0);
+    retires = retired-goes;
+  })
+
   pub advanced-goes : a .update < 2 ^ 32 → To (advanced t a .table) (cond (eqb (a .code) 1) (inBegin t a) (cond (eqb (a .code) 3) (inDeliver t a) []))
-  unfolding advanced inBegin inDeliver readings
+  unfolding advanced inBegin inDeliver
   advanced-goes small =
       by-test (eqb (a .code) 1) (λ e. rw e (refused-or (beginNumber t a) (begun t a) _ (λ z. begun-goes z small)))
-      (λ e. rw e
-      (by-test (eqb (a .code) 3)
-      (λ f. let two : eqb (a .code) 2 ≡ false = ap (λ (c : ℕ). eqb c 2) (eqb-true (a .code) 3 f) in rw (two, f) (refused-or (deliverNumber t a) (delivered t a) _ delivered-goes))
-      (λ f. rw f others)))
-    where
-      others : To (cond (eqb (a .code) 2) (unlessRefused (tellNumber t a) (told t a) t)
-          (cond false (unlessRefused (deliverNumber t a) (delivered t a) t)
-          (cond (eqb (a .code) 4) (unlessRefused (dropNumber t a) (dropped t a) t)
-          (cond (eqb (a .code) 5) (unlessRefused (downNumber t a) (putUp false t a) t)
-          (cond (eqb (a .code) 6) (unlessRefused (upNumber t a) (putUp true t a) t)
-          (cond (eqb (a .code) 7) (unlessRefused (retireNumber t a) (retired t a) t)
-          (cond (eqb (a .code) 8) (unlessRefused (readNumber t a) (readings t a) t)
-          (refusedAs 2 t))))))) .table) []
-      others =
-          of-cond (λ (r : Stepped). To (r .table) []) (eqb (a .code) 2) (λ e. quietly-or (tellNumber t a) (told t a) told-goes)
-          (λ e. of-cond (λ (r : Stepped). To (r .table) []) (eqb (a .code) 4) (λ e. quietly-or (dropNumber t a) (dropped t a) dropped-goes)
-          (λ e. of-cond (λ (r : Stepped). To (r .table) []) (eqb (a .code) 5) (λ e. quietly-or (downNumber t a) (putUp false t a) (λ z. put-up-goes false (site-index t (a .site) (may-down t a z) .0)))
-          (λ e. of-cond (λ (r : Stepped). To (r .table) []) (eqb (a .code) 6) (λ e. quietly-or (upNumber t a) (putUp true t a) (λ z. put-up-goes true (site-index t (a .site) (may-up t a z) .0)))
-          (λ e. of-cond (λ (r : Stepped). To (r .table) []) (eqb (a .code) 7) (λ e. quietly-or (retireNumber t a) (retired t a) retired-goes)
-          (λ e. of-cond (λ (r : Stepped). To (r .table) []) (eqb (a .code) 8) (λ e. quietly-or (readNumber t a) (readings t a) (λ z. stays))
-          (λ e. stays))))))
+      (λ e. by-test (eqb (a .code) 3)
+      (λ f. let two : eqb (a .code) 2 ≡ false = ap (λ (c : ℕ). eqb c 2) (eqb-true (a .code) 3 f) in rw (e, two, f) (refused-or (deliverNumber t a) (delivered t a) _ delivered-goes))
+      (λ f. let quiet : cond (eqb (a .code) 1) (inBegin t a) (cond (eqb (a .code) 3) (inDeliver t a) []) ≡ [] = rw (e, f) refl in subst (To (advanced t a .table)) (sym quiet) (others e f)))

@@ -1,16 +1,16 @@
 -- Demand 3: every night keeps its promise.
 use mathlib.Core.Path.{_≡_, refl, sym, ap, _∙_, subst}
-use mathlib.Core.Bool.{Bool, true, false, _&&_, cond}
-use mathlib.Core.List.{List, [], _∷_, _++_, List·Memᴰ·append-cases, Memᴰ·append-right}
-use mathlib.Core.Logic.{_⊎_, inl, inr, ⊎-elim}
+use mathlib.Core.Bool.{true, cond}
+use mathlib.Core.List.{[], _++_, List·Memᴰ·append-cases, Memᴰ·append-right}
+use mathlib.Core.Logic.{_⊎_, ⊎-elim}
 use Prim.Native.Nat.{ℕ, _-_, _^_, _≤_, _<_}
 use native.Mathlib.Omega.{arith}
-use borrow.Author.Tests.{le-leb, eqb-true, lt-ltb}
-use lib.Dec.{eqb, leb, ltb}
+use borrow.Author.Tests.{le-leb, eqb-true}
+use lib.Dec.{eqb}
 use lib.IntN.{ℤ, pos}
-use lib.ListN.{length, getD, List·getD-eq-default}
+use lib.ListN.{length, List·getD-eq-default}
 use Rattle.kit.specs.Lists.{_among_}
-use Rattle.kit.proofs.Bools.{of-cond, by-test, by-eq, by-lt, both-true, and-left, and-right}
+use Rattle.kit.proofs.Bools.{by-eq, by-lt, and-left, and-right}
 use Rattle.kit.proofs.Members.{in-none}
 use Rattle.ledger.specs.Ledger.{Reading, accept, Request as LedgerRequest}
 use Rattle.ledger.specs.Promise.{Newest as LedgerNewest, unchanged, changed-by}
@@ -20,31 +20,28 @@ use Rattle.ledger.proofs.Newest.{positive}
 use Rattle.ledger.proofs.Night.{promised}
 use Rattle.ledger.proofs.Safety.{accept-begun, proper}
 use Rattle.record.specs.declared.Step.{Step}
-use Rattle.sets.specs.Sets.{member, ofItems}
+use Rattle.sets.specs.Sets.{ofItems}
 use Rattle.sets.proofs.Members.{items-of}
 use Rattle.table.specs.Blank.{isBlankRequest}
 use Rattle.table.specs.Fresh.{blankTable, freshFor}
 use Rattle.table.specs.Meaning.{ShapedTable, Sound}
-use Rattle.table.specs.Places.{siteAt, messageAt, placeAt}
+use Rattle.table.specs.Places.{placeAt}
 use Rattle.table.specs.Sound.{soundTable}
 use Rattle.table.specs.declared.data.Table.{Table}
 use Rattle.table.proofs.FreshSound.{place-fresh, fresh-means, fresh-shaped}
-use Rattle.table.proofs.Meaning.{means, meant}
-use Rattle.vote.specs.Data.{headOf, noRequest, blankRequest}
-use Rattle.vote.specs.Requests.{covers, concurrent}
+use Rattle.table.proofs.Meaning.{meant}
+use Rattle.vote.specs.Data.{noRequest, blankRequest}
 use Rattle.vote.specs.declared.data.Request.{Request}
 use Rattle.vote.specs.declared.data.Verdict.{Verdict}
 use Rattle.vote.specs.declared.data.Verdict.the-variants as verdict
-use Rattle.steps.specs.Answers.{Done}
-use Rattle.steps.specs.Numbers.{beginNumber, tellNumber, deliverNumber, dropNumber, downNumber, upNumber, retireNumber, readNumber}
-use Rattle.steps.specs.Steps.{entered, begun, told, delivered, dropped, putUp, retired, readings, unlessRefused, advanced, stepped}
-use Rattle.steps.specs.declared.answer.Stepped.{Stepped}
-use Rattle.steps.proofs.Upkeep.{Well, begun-well, advanced-well}
-use Rattle.tied.specs.Views.{requestOf, hasItem, viewOf}
+use Rattle.steps.specs.Steps.{entered, begun, told, delivered, dropped, putUp, retired, advanced, stepped}
+use Rattle.steps.proofs.Each.{each-step}
+use Rattle.steps.proofs.Upkeep.{Well, advanced-well}
+use Rattle.tied.specs.Views.{requestOf, viewOf}
 use Rattle.tied.proofs.Tables.{fresh-tied}
-use Rattle.tied.proofs.Words.{covers-means, concurrent-means, has-below, has-member, has-of, place-items}
-use Rattle.demand.specs.Nights.{Event, began, voted, ruled, History, allSaid, inBegin, inDeliver, happened, Night, fresh, after}
-use Rattle.demand.specs.Promises.{AcceptedAt, RejectedAt, Accepted, Newest, blank, reading, Promise}
+use Rattle.tied.proofs.Words.{covers-means, concurrent-means, has-member, has-of, place-items}
+use Rattle.demand.specs.Nights.{began, ruled, History, inBegin, inDeliver, happened, Night, fresh, after}
+use Rattle.demand.specs.Promises.{AcceptedAt, Accepted, Newest, blank, reading, Promise}
 use Rattle.demand.proofs.Histories.{ledgerOf, ledger-append, accept-from, accept-in, reject-in}
 use Rattle.demand.proofs.Names.{Begun, one-begun, begun-next, ruled-held}
 use Rattle.demand.proofs.Steps.{advanced-goes}
@@ -99,23 +96,17 @@ fresh-state n low high =
 
 -- no step changes the number of sites
 same-count : (t : Table) (a : Step) → advanced t a .table .count ≡ t .count
-unfolding advanced begun entered told delivered dropped putUp retired readings
-same-count t a =
-    of-cond Same (eqb (a .code) 1) (λ e. either (beginNumber t a) (begun t a) refl)
-    (λ e. of-cond Same (eqb (a .code) 2) (λ e. either (tellNumber t a) (told t a) refl)
-    (λ e. of-cond Same (eqb (a .code) 3) (λ e. either (deliverNumber t a) (delivered t a) refl)
-    (λ e. of-cond Same (eqb (a .code) 4) (λ e. either (dropNumber t a) (dropped t a) refl)
-    (λ e. of-cond Same (eqb (a .code) 5) (λ e. either (downNumber t a) (putUp false t a) refl)
-    (λ e. of-cond Same (eqb (a .code) 6) (λ e. either (upNumber t a) (putUp true t a) refl)
-    (λ e. of-cond Same (eqb (a .code) 7) (λ e. either (retireNumber t a) (retired t a) refl)
-    (λ e. of-cond Same (eqb (a .code) 8) (λ e. either (readNumber t a) (readings t a) refl)
-    (λ e. refl))))))))
-  where
-    Same : Stepped → Type 0
-    Same r = r .table .count ≡ t .count
-
-    either : (number : ℕ) (d : Done) → d .table .count ≡ t .count → Same (unlessRefused number d t)
-    either number d e = of-cond Same (eqb number 0) (λ z. e) (λ z. refl)
+unfolding begun entered told delivered dropped putUp retired
+same-count t a = each-step t a (λ u. u .count ≡ t .count) (record {
+  stays = refl;
+  begins = λ _ _. refl;
+  tells = λ _. refl;
+  delivers = λ _ _. refl;
+  drops = λ _. refl;
+  downs = λ _. refl;
+  ups = λ _. refl;
+  retires = λ _. refl;
+})
 
 next-state : (n : ℕ) (t : Table) (h : History) (a : Step) → a .update < 2 ^ 32 → State n t h → State n (stepped t a .table) (happened t a ++ h)
 unfolding stepped happened

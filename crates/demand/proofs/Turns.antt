@@ -1,13 +1,11 @@
 -- What a site of a sound table does with a request is a run of ledger events: the tie, with soundness as what each turn keeps.
-use mathlib.Core.Path.{_≡_, refl, sym, ap, _∙_, subst}
+use mathlib.Core.Path.{_≡_, sym, subst}
 use mathlib.Core.Bool.{Bool, true, false}
 use mathlib.Core.List.{List}
 use Prim.Native.Nat.{ℕ, _<_}
-use native.Mathlib.Omega.{arith}
-use lib.IntN.{ℤ}
 use Rattle.ledger.specs.View.{Goes}
 use Rattle.table.specs.Meaning.{ShapedTable, Sound}
-use Rattle.table.specs.Places.{siteAt, messageAt, placeAt, verdictAt, markAt, withSite}
+use Rattle.table.specs.Places.{siteAt, placeAt, verdictAt, markAt, withSite}
 use Rattle.table.specs.Sound.{marksOk, marksOther, backed}
 use Rattle.table.specs.declared.data.Table.{Table}
 use Rattle.table.proofs.Places.{site-back}
@@ -16,21 +14,20 @@ use Rattle.vote.specs.Data.{isOpen, isUnmarked, requestIn, voteAt}
 use Rattle.vote.specs.Verdicts.{verdictDue, ruled}
 use Rattle.vote.specs.Voters.{hasVoter}
 use Rattle.vote.specs.Voting.{voted}
-use Rattle.vote.specs.declared.data.Request.{Request}
 use Rattle.vote.specs.declared.data.Site.{Site}
 use Rattle.vote.specs.declared.data.Verdict.{Verdict}
 use Rattle.walk.specs.Hearing.{outcomeOf, takenUp, received}
-use Rattle.walk.specs.Walking.{Out, queued, outcomeAt, votedAt, dueAt}
+use Rattle.walk.specs.Walking.{queued, outcomeAt, votedAt, dueAt}
 use Rattle.walk.proofs.HearingInductions.{joinedOn}
-use Rattle.walk.proofs.Inductions.{Turn, Keeps}
-use Rattle.upkeep.proofs.Lifting.{At, Fine, FineBut, fine-but, fine-now, site-in}
+use Rattle.walk.proofs.Inductions.{Keeps}
+use Rattle.upkeep.proofs.Lifting.{At, Fine, FineBut, fine-but, fine-now}
 use Rattle.upkeep.proofs.Ruling.{settled-fine, ruled-fine, due-backed-at}
 use Rattle.upkeep.proofs.Voting.{vote-of, voted-from-fine, voted-from-marked, queued-below, queued-used, voted-fine, joined-fine}
 use Rattle.tied.specs.Events.{eventsOf}
 use Rattle.tied.specs.Views.{viewOf}
 use Rattle.tied.proofs.Hearings.{Upheld, taken-goes, received-goes}
 use Rattle.tied.proofs.Soundly.{seat-of, stands-of, known-of, ready-of}
-use Rattle.tied.proofs.Walks.{Seat, Stands, Went, went-goes}
+use Rattle.tied.proofs.Walks.{Seat, Stands, went-goes}
 
 module _ (t : Table) (k : ℕ) (g : ShapedTable t) (b : Sound t) (hk : k < t .count) where
   at-site : At t k

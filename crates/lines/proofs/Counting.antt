@@ -1,23 +1,23 @@
 -- The number of a record kept as digits: from one line to the next they are the digits of the next number, and a line can begin with them.
 use mathlib.Core.Path.{_≡_, refl, sym, ap, ap₂, _∙_}
 use mathlib.Core.Bool.{Bool, true, false, not, cond, _&&_}
-use mathlib.Core.List.{List, [], _∷_, _++_}
-use Prim.Native.Nat.{ℕ, suc, _+_, _-_, _/_, _%_, _^_, _≤_, _<_}
+use mathlib.Core.List.{List, [], _++_}
+use Prim.Native.Nat.{ℕ, _+_, _-_, _^_, _≤_, _<_}
 use native.Mathlib.Omega.{arith}
 use borrow.Author.Tests.{leb-true, le-leb, lt-leb, lt-ltb, le-ltb, ltb-true, not-true, not-false}
 use lib.Dec.{ltb, leb}
 use lib.IntN.{ℤ}
 use lib.Signed.{natAbs-le}
-use lib.ListN.{length, take, getD, set, length-append, length-set, length-take}
-use lib.Seq.{length-take-le, getD-take, take-set-lt, take-take, set-at, getD-at}
+use lib.ListN.{length, take, length-take}
+use lib.Seq.{length-take-le, take-take}
 use mir.Syntax.{w8, w32, w64}
 use mir.Val.{Fits, SFits, toZ, ofZ}
 use mir.Facts.{toZ-ofZ}
 use Rattle.kit.specs.Lists.{put}
-use Rattle.kit.proofs.Bools.{and-left, and-right, by-test, by-lt, of-cond, cond-yes, cond-no}
+use Rattle.kit.proofs.Bools.{and-left, and-right, by-test, of-cond, cond-yes, cond-no}
 use Rattle.kit.proofs.Puts.{length-put, put-put, take-put}
 use Rattle.kit.proofs.Fields.{ends-in, ends-out}
-use Rattle.lines.specs.Lines.{digit, decimalOf, lineOf, Wrote}
+use Rattle.lines.specs.Lines.{decimalOf, lineOf, Wrote}
 use Rattle.lines.specs.Counts.{isKept, counted, isKeepable, countedDigits, countedLength, isGrown, oneMore, digitsOn, lengthOn, firstWritten, lineWith, tailOf, amplePlaced, ampleFitted}
 use Rattle.lines.proofs.Decimals.{length-some, length-le}
 use Rattle.lines.proofs.Growing.{more-length, next-number}

@@ -4,8 +4,9 @@ mod Opening
 mod Advancing
 mod Arms
 mod Attending
--- The conditions of a step, and that each step keeps the table sound.
+-- The conditions of a step, what holds behind each, and that each keeps the table sound.
 pub mod Allowed
+pub mod Each
 pub mod Upkeep
 -- Runs over a buffer of records.
 pub mod Running

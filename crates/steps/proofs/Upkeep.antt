@@ -1,26 +1,23 @@
 -- Every step keeps the table sound, through resolve and walk, whatever it is given.
 use mathlib.Core.Path.{_≡_, refl, sym, ap, _∙_}
-use mathlib.Core.Bool.{Bool, true, false, not, cond}
-use Prim.Native.Nat.{ℕ, suc, _-_, _≤_, _<_}
+use mathlib.Core.Bool.{Bool, true, false}
+use Prim.Native.Nat.{suc, _-_, _<_}
 use native.Mathlib.Omega.{arith}
-use borrow.Author.Tests.{eqb-true}
-use lib.Dec.{eqb}
-use Rattle.kit.proofs.Bools.{of-cond, clash}
+use Rattle.kit.proofs.Bools.{of-cond}
 use Rattle.plans.specs.Changes.{stored, forgotten}
 use Rattle.record.specs.declared.Step.{Step}
 use Rattle.table.specs.Meaning.{ShapedTable, Sound}
-use Rattle.table.specs.Places.{siteAt, messageAt, placeAt}
 use Rattle.table.specs.Sound.{soundTable}
 use Rattle.table.specs.declared.data.Table.{Table}
 use Rattle.table.proofs.Meaning.{means, meant}
 use Rattle.upkeep.proofs.Begins.{begun-sound}
 use Rattle.upkeep.proofs.Changing.{dropped-sound, told-sound, put-up-sound, retired-sound}
 use Rattle.upkeep.proofs.Kept.{delivered-sound}
-use Rattle.steps.specs.Answers.{Done, steppedAs, refusedAs}
-use Rattle.steps.specs.Numbers.{freePlace, freeMessage, placeOf, beginNumber, tellNumber, deliverNumber, dropNumber, downNumber, upNumber, retireNumber, readNumber}
-use Rattle.steps.specs.Steps.{issueFor, entered, begun, told, delivered, dropped, putUp, retired, readings, unlessRefused, advanced, stepped}
+use Rattle.steps.specs.Numbers.{freePlace, freeMessage, placeOf, beginNumber, tellNumber, deliverNumber, dropNumber, retireNumber}
+use Rattle.steps.specs.Steps.{issueFor, entered, begun, told, delivered, dropped, putUp, retired, advanced, stepped}
 use Rattle.steps.specs.declared.answer.Stepped.{Stepped}
-use Rattle.steps.proofs.Allowed.{site-index, free-place, free-message, named-place, message-there, MayBegin, may-begin, MayTell, may-tell, may-deliver, may-drop, may-down, may-up, MayRetire, may-retire, given-of}
+use Rattle.steps.proofs.Each.{each-step}
+use Rattle.steps.proofs.Allowed.{site-index, free-place, free-message, named-place, message-there, may-begin, may-tell, may-deliver, may-drop, may-down, may-up, may-retire, given-of}
 
 -- sound, with its lists as long as they are in memory
 pub record Well (t : Table) : Type 0 where
@@ -31,10 +28,6 @@ well : {t : Table} → Sound t × ShapedTable t → Well t
 well h = record { sound = h .0; shaped = h .1 }
 
 module _ (t : Table) (a : Step) (w : Well t) where
-  -- a refused step leaves the table as it came
-  refused-or : (number : ℕ) (d : Done) → (number ≡ 0 → Well (d .table)) → Well (unlessRefused number d t .table)
-  refused-or number d h = of-cond (λ (r : Stepped). Well (r .table)) (eqb number 0) (λ e. h (eqb-true number 0 e)) (λ e. w)
-
   pub begun-well : beginNumber t a ≡ 0 → Well (begun t a .table)
   unfolding begun entered stored
   begun-well e =
@@ -78,17 +71,16 @@ module _ (t : Table) (a : Step) (w : Well t) where
 
   -- the step
   pub advanced-well : Well (advanced t a .table)
-  unfolding advanced readings
-  advanced-well =
-      of-cond (λ (r : Stepped). Well (r .table)) (eqb (a .code) 1) (λ e. refused-or (beginNumber t a) (begun t a) begun-well)
-      (λ e. of-cond (λ (r : Stepped). Well (r .table)) (eqb (a .code) 2) (λ e. refused-or (tellNumber t a) (told t a) told-well)
-      (λ e. of-cond (λ (r : Stepped). Well (r .table)) (eqb (a .code) 3) (λ e. refused-or (deliverNumber t a) (delivered t a) delivered-well)
-      (λ e. of-cond (λ (r : Stepped). Well (r .table)) (eqb (a .code) 4) (λ e. refused-or (dropNumber t a) (dropped t a) dropped-well)
-      (λ e. of-cond (λ (r : Stepped). Well (r .table)) (eqb (a .code) 5) (λ e. refused-or (downNumber t a) (putUp false t a) (λ z. put-up-well false (site-index t (a .site) (may-down t a z) .0)))
-      (λ e. of-cond (λ (r : Stepped). Well (r .table)) (eqb (a .code) 6) (λ e. refused-or (upNumber t a) (putUp true t a) (λ z. put-up-well true (site-index t (a .site) (may-up t a z) .0)))
-      (λ e. of-cond (λ (r : Stepped). Well (r .table)) (eqb (a .code) 7) (λ e. refused-or (retireNumber t a) (retired t a) retired-well)
-      (λ e. of-cond (λ (r : Stepped). Well (r .table)) (eqb (a .code) 8) (λ e. refused-or (readNumber t a) (readings t a) (λ z. w))
-      (λ e. w))))))))
+  advanced-well = each-step t a Well (record {
+    stays = w;
+    begins = λ _. begun-well;
+    tells = told-well;
+    delivers = λ _. delivered-well;
+    drops = dropped-well;
+    downs = λ z. put-up-well false (site-index t (a .site) (may-down t a z) .0);
+    ups = λ z. put-up-well true (site-index t (a .site) (may-up t a z) .0);
+    retires = retired-well;
+  })
 
 -- the same of the public step
 pub stepped-well : (t : Table) (a : Step) → Well t → Well (stepped t a .table)
