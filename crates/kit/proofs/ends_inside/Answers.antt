@@ -4,20 +4,14 @@ use mathlib.Core.Path.{◌≡◌, sym, ◌∙◌}
 use native.Mathlib.Omega.{arith}
 use borrow.Author.Tests.{lt-leb, le-leb}
 use Rattle.kit.proofs.Bools.{by_le}
-use Rattle.kit.proofs.ends_inside.Statement.{statement}
-use Rattle.kit.proofs.ends_inside.Tie as tie
+use Rattle.kit.proofs.ends_inside.Goals as goal
 
-returns : tie.Need-returns
-returns c =
-    let a = c.before.args in
+pub returns-then-len-n : goal.returns-then-len-n
+returns-then-len-n c = let a = c.args in
     let h : a.len < a.at + a.n = omega arith in
     sym (lt-leb (a.at + a.n) a.len h)
 
-returns-2 : tie.Need-returns-2
-returns-2 c =
-    let a = c.before.args in
+pub returns : goal.returns
+returns c = let a = c.args in
     by_le a.at (a.len - a.n) (λ h. le-leb _ _ h ∙ sym (le-leb (a.at + a.n) a.len (omega arith)))
     (λ h. lt-leb _ _ h ∙ sym (lt-leb (a.at + a.n) a.len (omega arith)))
-
-pub ends-inside-spec : {M : Type 1} → statement M
-ends-inside-spec = tie.close (tie.spec returns returns-2)
