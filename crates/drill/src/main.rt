@@ -4,6 +4,8 @@
 //     tell       the steps drop and tell in turn, of one message
 //     deliver    the step deliver, of a message that came before
 // It prints WHAT, COUNT and whether each call gave what it should. scripts/speed times it.
+#![tactic(auto)]
+
 ghost use Rattle.std.specs.Prelude.{◌≤◌};
 
 use check::same;

@@ -1,4 +1,6 @@
 // Runs a night from standard input as the bench program does, and then writes the file of each site, siteN.six, into the current folder.
+#![tactic(auto)]
+
 use libc::STDERR_FILENO;
 
 fn main() {

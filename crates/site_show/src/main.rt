@@ -1,4 +1,6 @@
 // Prints a site file, one line a measured item: item, movement, position, stamp, t, site digit, value; or `refused 18`.
+#![tactic(auto)]
+
 ghost use Rattle.std.specs.Prelude.{◌≡◌, nat_abs, length};
 ghost use Rattle.io.specs.Counts.{IsPrefixLen};
 

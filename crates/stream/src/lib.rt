@@ -1,5 +1,7 @@
 // A night from standard input to standard output: what the programs share. All that is said of the table and of the lines is said of
 // `steps::run`; what a read brings and where a write goes no contract can say, so the public calls give nothing back.
+#![tactic(auto)]
+
 mod files;
 
 ghost use Rattle.std.specs.Prelude.{◌≤◌, ◌≡◌, true, length};

@@ -1,4 +1,6 @@
 // The published vectors of FNV-1a, 32 bits: a check in hexadecimal for each, one to a line.
+#![tactic(auto)]
+
 use libc::STDOUT_FILENO;
 
 fn show(s: &[u8]) {
