@@ -6,7 +6,7 @@ ghost use Rattle.clock.specs.Clock.{answered, moved_on, issuing};
 use stamps::Issue;
 
 // The site's digit, and the last t that it issued: 0 when fresh.
-#[derive(Drop)]
+#[derive(Clone, Copy)]
 pub struct Clock {
     pub site: u8,
     pub last: u32,
@@ -34,7 +34,7 @@ pub fn issue(c: &mut Clock, clock: u32, base: u32, stamps: &[u64; 24]) -> Issue
 }
 
 // An answer, and the clock record after it.
-#[derive(Drop)]
+#[derive(Clone, Copy)]
 pub struct Issued {
     pub answer: Issue,
     pub clock: Clock,

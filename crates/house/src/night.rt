@@ -14,14 +14,14 @@ use table::data::Table;
 use table::fresh::fresh;
 
 // What some bytes leave of a room: whether they fit, and how many bytes are left behind them, 0 where they do not.
-#[derive(Drop)]
+#[derive(Clone, Copy)]
 struct Room {
     enough: bool,
     left: usize,
 }
 
 // What printing a night answers: document 01's number, 0 or 19, and the length of its lines, 0 beside 19.
-#[derive(Drop)]
+#[derive(Clone, Copy)]
 pub struct Printed {
     pub number: u8,
     pub length: usize,

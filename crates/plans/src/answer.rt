@@ -4,7 +4,7 @@ ghost use Rattle.plans.specs.Answers.{refusal, results};
 
 // Document 01's number, the two results, how many requests the step accepted and rejected at its site. The first result of a read may be
 // negative.
-#[derive(Drop)]
+#[derive(Clone, Copy)]
 pub struct Answer {
     pub number: u8,
     pub first: i64,

@@ -12,7 +12,7 @@ use table::requests::{are_base_stamps_allowed, are_sets_allowed, are_values_allo
 use vote::data::Head;
 
 // The answer, the head of the request that is stored, empty where none is, and the site's last t.
-#[derive(Drop)]
+#[derive(Clone, Copy)]
 pub struct Begun {
     pub answer: Answer,
     pub head: Head,

@@ -19,7 +19,7 @@ use crate::body::{
 //     7 retire           stamp
 //     8 read             site, item
 // The sets have bit i set for item i; stamps and values are by item, 0 for an item outside the base set and the update set.
-#[derive(Drop)]
+#[derive(Clone, Copy)]
 pub struct Step {
     pub code: u8,
     pub site: u8,
@@ -36,7 +36,7 @@ pub struct Step {
 
 // A record as it was read: document 01's number (0, 2 or 17); where the next record starts, 0 where this one is cut; the step, blank
 // where it is refused.
-#[derive(Drop)]
+#[derive(Clone, Copy)]
 pub struct Record {
     pub number: u8,
     pub next: usize,
@@ -45,7 +45,7 @@ pub struct Record {
 
 // A record without a begin's stamps and values, which no other step has: its number, where the next one starts, and the fields of its step.
 // Small fields stand between large ones, so that no two are stored in one word.
-#[derive(Drop)]
+#[derive(Clone, Copy)]
 pub struct Brief {
     pub number: u8,
     pub next: usize,

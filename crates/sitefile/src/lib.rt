@@ -10,7 +10,7 @@ ghost use Rattle.sitefile.specs.Read.{wrong_site, wrong_reading, wrong_check, ri
 use kit::{index, read_field, write_field};
 
 // What an entry of a site file holds.
-#[derive(Drop)]
+#[derive(Clone, Copy)]
 struct Entry {
     item: u8,
     stamp: u64,
@@ -18,7 +18,7 @@ struct Entry {
 }
 
 // What the reader answers: document 01's number, 0 or 18, and the site's readings, all zeros beside 18.
-#[derive(Drop)]
+#[derive(Clone, Copy)]
 pub struct SiteFile {
     pub number: u8,
     pub site: u8,
@@ -27,7 +27,7 @@ pub struct SiteFile {
 }
 
 // What the writer answers: document 01's number, 0 or 19, and the length of the file, 0 beside 19.
-#[derive(Drop)]
+#[derive(Clone, Copy)]
 pub struct Written {
     pub number: u8,
     pub length: usize,

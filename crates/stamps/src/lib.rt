@@ -108,7 +108,7 @@ pub fn next_time(clock: u32, last: u32, base: u32, stamps: &[u64; 24]) -> u64
 }
 
 // A stamp and its t, or none: t would pass 4,294,967,295.
-#[derive(Drop)]
+#[derive(Clone, Copy)]
 pub enum Issue {
     Past,
     Given(u64, u32),

@@ -3,7 +3,7 @@ use plans::answer::Answer;
 use table::data::Table;
 
 // The answer, and the table after the step.
-#[derive(Drop)]
+#[derive(Clone, Copy)]
 pub struct Stepped {
     pub answer: Answer,
     pub table: Table,

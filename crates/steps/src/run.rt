@@ -8,7 +8,7 @@ use table::sound::sound;
 
 // What a run over a buffer gives back: document 01's number (0, or 1 where the table is not sound, with zeros beside it); how many bytes
 // of the input it took and how many of the output it wrote; the number of the next record; the table.
-#[derive(Drop)]
+#[derive(Clone, Copy)]
 pub struct Ran {
     pub number: u8,
     pub taken: usize,

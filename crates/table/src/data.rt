@@ -2,7 +2,7 @@
 use vote::data::{Request, Site, Verdict};
 
 // A message: what site `from` knew of the request at place `request` when it told site `to`. An unused place is blank.
-#[derive(Drop)]
+#[derive(Clone, Copy)]
 pub struct Message {
     pub used: bool,
     pub request: u8,
@@ -13,7 +13,7 @@ pub struct Message {
     pub others: [bool; 7],
 }
 
-#[derive(Drop)]
+#[derive(Clone, Copy)]
 pub struct Table {
     pub count: u8,
     pub sites: [Site; 7],

@@ -74,7 +74,7 @@ fn blank_table(n: u8) -> Table
 }
 
 // A fresh table, or number 3 and a table of no sites.
-#[derive(Drop)]
+#[derive(Clone, Copy)]
 pub struct FreshTable {
     pub number: u8,
     pub table: Table,

@@ -49,7 +49,7 @@ pub(crate) fn is_in_time(lasts: &[u32; 7], stamp: u64) -> bool
 }
 
 // What one site has said of each of the 16 places.
-#[derive(Drop)]
+#[derive(Clone, Copy)]
 pub struct Ballot {
     pub votes: [Vote; 16],
 }
@@ -72,14 +72,14 @@ pub fn ballots_of(sites: [Site; 7]) -> [Ballot; 7]
 }
 
 // Which sites marked a place OK, and which DR or REJ.
-#[derive(Drop)]
+#[derive(Clone, Copy)]
 pub struct Marks {
     pub oks: [bool; 7],
     pub others: [bool; 7],
 }
 
 // The own marks of all places, kept as a site keeps the voters that it knows.
-#[derive(Drop)]
+#[derive(Clone, Copy)]
 pub struct Marked {
     pub oks: [bool; 112],
     pub others: [bool; 112],

@@ -9,7 +9,7 @@ use crate::data::{Head, Mark, Verdict, Vote};
 use crate::requests::{head_from, is_conflicting, is_outranking};
 
 // What comes of considering a request, by the rule that fitted.
-#[derive(Drop)]
+#[derive(Clone, Copy)]
 pub enum Outcome {
     Rej,
     DeferBase,

@@ -1,7 +1,7 @@
 // What one site holds. Items and request places count from 0; site number u of the table is 0 to 6, its digit u + 1.
 
 // A site's own mark of a request.
-#[derive(Drop)]
+#[derive(Clone, Copy)]
 pub enum Mark {
     None,
     Deferred,
@@ -10,7 +10,7 @@ pub enum Mark {
     Rej,
 }
 
-#[derive(Drop)]
+#[derive(Clone, Copy)]
 pub enum Verdict {
     Open,
     Accepted,
@@ -18,14 +18,14 @@ pub enum Verdict {
 }
 
 // What a site has said of one request.
-#[derive(Drop)]
+#[derive(Clone, Copy)]
 pub struct Vote {
     pub mark: Mark,
     pub verdict: Verdict,
 }
 
 // A request: its stamp (0 at a free place), base set and update set, a base stamp for each base item, a new value for each update item.
-#[derive(Drop)]
+#[derive(Clone, Copy)]
 pub struct Request {
     pub stamp: u64,
     pub base: u32,
@@ -35,7 +35,7 @@ pub struct Request {
 }
 
 // All of a request that covering and priority look at.
-#[derive(Drop)]
+#[derive(Clone, Copy)]
 pub struct Head {
     pub stamp: u64,
     pub base: u32,
@@ -44,7 +44,7 @@ pub struct Head {
 
 // A site: its last t, its copy (a stamp and a value for each item), its queue of deferred requests (of which the first `waiting` places
 // count), and for each of the 16 request places what it has said and which voters it knows: voter u of place p at 7 × p + u.
-#[derive(Drop)]
+#[derive(Clone, Copy)]
 pub struct Site {
     pub up: bool,
     pub last: u32,

@@ -112,7 +112,7 @@ pub fn is_none_known(known: &[bool; 112], p: u8) -> bool
 }
 
 // The voters of a row as a list of site numbers, and how many they are.
-#[derive(Drop)]
+#[derive(Clone, Copy)]
 pub struct Listed {
     pub sites: [u8; 7],
     pub count: u8,

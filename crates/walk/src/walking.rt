@@ -17,7 +17,7 @@ use vote::verdicts::{rule, verdict_due};
 use vote::voting::cast_vote;
 
 // How many wait at a site after a walk, and how many requests it accepted and rejected.
-#[derive(Drop)]
+#[derive(Clone, Copy)]
 pub struct Settled {
     pub waiting: u8,
     pub accepted: u32,
