@@ -1,4 +1,6 @@
 // The bench program once more, on spoiled input (samples/spoiled.txt).
-fn main() {
-    stream::print_night();
+#![tactic(auto)]
+
+fn main(rt: HostRuntime) {
+    stream::print_night(rt.stdin(), rt.stdout());
 }
