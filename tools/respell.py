@@ -35,6 +35,10 @@ GIVEN = {
 }
 
 
+# Names that are declared several on a line, or with their type on the next.
+MORE = ["votes-ok", "votes-against", "refusedAs", "steppedAs", "asRead", "told-oks", "told-others"]
+
+
 def files():
     for folder, dirs, names in os.walk(os.path.join(ROOT, "crates")):
         dirs[:] = sorted(d for d in dirs if d != "out")
@@ -74,6 +78,7 @@ def declared():
         if is_own(path):
             for found in DECLARED.finditer(bare(read(path))):
                 names.setdefault(found.group(1), []).append(path)
+    names.update((name, []) for name in MORE)
     return names
 
 

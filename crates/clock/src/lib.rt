@@ -1,4 +1,6 @@
 // The clock record of a site, and the one function that moves it on.
+#![tactic(auto)]
+
 ghost use Rattle.std.specs.Prelude.{◌≡◌};
 ghost use Rattle.stamps.specs.Issue.{issue_last};
 ghost use Rattle.clock.specs.Clock.{answered, moved_on, issuing};

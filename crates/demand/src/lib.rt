@@ -1,1 +1,3 @@
 // Demand 3 is mathematics, in specs/ and proofs/: over any run from a fresh table.
+#![tactic(auto)]
+

@@ -1,1 +1,3 @@
 // The copy of any site of a sound table can be written as a site file: mathematics, in proofs/.
+#![tactic(auto)]
+

@@ -1,4 +1,6 @@
 // FNV-1a, 32 bits.
+#![tactic(auto)]
+
 ghost use Rattle.std.specs.Prelude.{◌≡◌};
 ghost use Rattle.fnv.specs.Fnv.{cut_product, fnv_step, fnv_of};
 

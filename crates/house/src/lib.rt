@@ -1,5 +1,7 @@
 // The library of the other houses: a handful of functions on numbers and bytes, which C and Rust call. include/vundrelt.h says the same to
 // a C caller. Each returns document 01's number: 0 where it is done. Beside a refusal every number given back is 0, and a buffer is as it came.
+#![tactic(auto)]
+
 ghost use Rattle.std.specs.Prelude.{◌≡◌, length};
 ghost use Rattle.sitefile.specs.Read.{file_read};
 ghost use Rattle.sitefile.specs.Write.{file_written, buffer_after};

@@ -1,5 +1,7 @@
 // What is not of the watch trade: little-endian fields in byte slices, two's complement, and a test as a number.
 // The definitions are in specs/, the laws that every other crate cites in proofs/; README.md beside this folder lists them.
+#![tactic(auto)]
+
 ghost use Rattle.std.specs.Prelude.{◌≡◌, ◌+◌, leb};
 ghost use Rattle.std.specs.Int.{w32};
 ghost use Rattle.std.proofs.Common.{to_z, of_z};

@@ -14,7 +14,7 @@ use Rattle.majority.specs.Majority.{majority, blocking}
 use Rattle.ledger.specs.Ledger.{Reading, Request, Event, begin, ok, against, accept, reject, History, Conflict}
 use Rattle.ledger.specs.Ledger.{reading, blank, writes, written, copy_of, acceptances, of_site, copy_at, Settled}
 use Rattle.ledger.specs.Ledger.{Quorum, Allowed, Valid, start, next}
-use Rattle.ledger.specs.View.{Word, votes-ok, votes-against, accepts, rejects, Word-discrete, View, event, copy_after, HeldIn, Judged, Stays}
+use Rattle.ledger.specs.View.{Word, votes_ok, votes_against, accepts, rejects, Word-discrete, View, event, copy_after, HeldIn, Judged, Stays}
 use Rattle.ledger.specs.View.{Begins, Quiet, Enough, CanOk, Can, Says, Run, stay, quiet, begins, says, Goes, Tied}
 use Rattle.ledger.proofs.Safety.{ok_quorum, against_quorum, ok_begun, against_begun, accept_begun, reject_begun}
 
@@ -31,16 +31,16 @@ by_said {P} l k t s q p f g = go (Word-discrete l k)
 module _ {X : Type 0} where
   -- who says what of which request
   parts_of : Event X → Word × ℕ × Request X
-  parts_of (begin r) = (votes-ok, 0, r)
-  parts_of (ok s r) = (votes-ok, s, r)
-  parts_of (against s r) = (votes-against, s, r)
+  parts_of (begin r) = (votes_ok, 0, r)
+  parts_of (ok s r) = (votes_ok, s, r)
+  parts_of (against s r) = (votes_against, s, r)
   parts_of (accept s r) = (accepts, s, r)
   parts_of (reject s r) = (rejects, s, r)
 
   parts : (k : Word) (s : ℕ) (r : Request X) → parts_of (event k s r) ≡ (k, s, r)
   unfolding parts_of
-  parts votes-ok s r = refl
-  parts votes-against s r = refl
+  parts votes_ok s r = refl
+  parts votes_against s r = refl
   parts accepts s r = refl
   parts rejects s r = refl
 
@@ -52,14 +52,14 @@ module _ {X : Type 0} where
 
   -- no vote or verdict is a begin
   begin_not : (k : Word) (s : ℕ) (q r : Request X) → event k s q ≡ begin r → ◌≡◌ {A = ℕ} 0 1
-  begin_not votes-ok s q r e = cc
-  begin_not votes-against s q r e = cc
+  begin_not votes_ok s q r e = cc
+  begin_not votes_against s q r e = cc
   begin_not accepts s q r e = cc
   begin_not rejects s q r e = cc
 
   event_begun : {n : ℕ} {x : X} {h : History X} → Valid n x h → (k : Word) (s : ℕ) {r : Request X} → event k s r among h → begin r among h
-  event_begun v votes-ok s m = ok_begun v m
-  event_begun v votes-against s m = against_begun v m
+  event_begun v votes_ok s m = ok_begun v m
+  event_begun v votes_against s m = against_begun v m
   event_begun v accepts s m = accept_begun v m
   event_begun v rejects s m = reject_begun v m
 
@@ -81,8 +81,8 @@ module _ {X : Type 0} where
   copy_next : (x : X) (h : History X) (k : Word) (c : ℕ → ℕ → Reading X) (s : ℕ) (r : Request X) (t i : ℕ)
       → c t i ≡ copy_at x h t i → copy_after k c s r t i ≡ copy_at x (event k s r ∷ h) t i
   unfolding acceptances of_site copy_of
-  copy_next x h votes-ok c s r t i e = e
-  copy_next x h votes-against c s r t i e = e
+  copy_next x h votes_ok c s r t i e = e
+  copy_next x h votes_against c s r t i e = e
   copy_next x h rejects c s r t i e = e
   copy_next x h accepts c s r t i e = go (eqb t s)
     where
@@ -214,22 +214,22 @@ module _ {X : Type 0} {n : ℕ} {x : X} {v : View X} {h : History X} (T : Tied n
   cleared : (s p : ℕ) → s < n → CanOk n v s p → (q : Request X) → ok s q among h → Conflict q (v.request p)
       → HeldIn v q ⊎ ((t : ℕ) → t < n → Settled h t q) → Settled h s q
   cleared s p l C q m c (inl a) =
-      let said : v.says votes-ok s a.0 ≡ true = T.meant votes-ok s a.0 l a.1 (Memᴰ.cast (ap (ok s) a.2) m) in
+      let said : v.says votes_ok s a.0 ≡ true = T.meant votes_ok s a.0 l a.1 (Memᴰ.cast (ap (ok s) a.2) m) in
       let conflict : Conflict (v.request a.0) (v.request p) = rw a.2 c in
       subst (Settled h s) a.2 (settled s a.0 l a.1 (C.clear a.0 a.1 said conflict))
   cleared s p l C q m c (inr f) = f s l
 
   allowed : (k : Word) (s p : ℕ) → s < n → v.held p ≡ true → Can n k v s p → Allowed n x h (event k s (v.request p))
   unfolding majority blocking
-  allowed votes-ok s p l e C = record {
+  allowed votes_ok s p l e C = record {
     begun = T.begun p e;
-    free = λ m. clash (T.meant votes-against s p l e m) C.free;
+    free = λ m. clash (T.meant votes_against s p l e m) C.free;
     same = λ i b. omega (arith, ap (λ (c : Reading X). c.stamp) (T.copies s i l), C.same i b);
     clear = λ q m c. cleared s p l C q m c (T.kept q (ok_begun T.valid m));
   }
-  allowed votes-against s p l e f = record { begun = T.begun p e; free = λ m. clash (T.meant votes-ok s p l e m) f }
-  allowed accepts s p l e E = quorum (majority n) votes-ok p (omega arith) e E
-  allowed rejects s p l e E = quorum (blocking n) votes-against p (omega arith) e E
+  allowed votes_against s p l e f = record { begun = T.begun p e; free = λ m. clash (T.meant votes_ok s p l e m) f }
+  allowed accepts s p l e E = quorum (majority n) votes_ok p (omega arith) e E
+  allowed rejects s p l e E = quorum (blocking n) votes_against p (omega arith) e E
 
   module _ {w : View X} (k : Word) (s p : ℕ) (S : Says n k s p v w) where
     is_said : (l : Word) (t q : ℕ) → l ≡ k → t ≡ s → q ≡ p → w.says l t q ≡ true
@@ -341,8 +341,8 @@ module _ {X : Type 0} {n : ℕ} {x : X} {v : View X} {h : History X} (T : Tied n
   shown : (m : ℕ) (k : Word) → Quorum n m h (λ s. event k s (v.request p)) → Enough n m v k p
   shown m k q = record { who = q.who; many = q.many; did = λ t b i. T.meant k t p b e (q.did t b i) }
 
-  pub accept_backed : (s : ℕ) → s < n → v.says accepts s p ≡ true → Enough n (majority n) v votes-ok p
-  accept_backed s l f = shown (majority n) votes-ok (ok_quorum T.valid (T.said accepts s p l e f))
+  pub accept_backed : (s : ℕ) → s < n → v.says accepts s p ≡ true → Enough n (majority n) v votes_ok p
+  accept_backed s l f = shown (majority n) votes_ok (ok_quorum T.valid (T.said accepts s p l e f))
 
-  pub reject_backed : (s : ℕ) → s < n → v.says rejects s p ≡ true → Enough n (blocking n) v votes-against p
-  reject_backed s l f = shown (blocking n) votes-against (against_quorum T.valid (T.said rejects s p l e f))
+  pub reject_backed : (s : ℕ) → s < n → v.says rejects s p ≡ true → Enough n (blocking n) v votes_against p
+  reject_backed s l f = shown (blocking n) votes_against (against_quorum T.valid (T.said rejects s p l e f))

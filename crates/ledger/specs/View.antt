@@ -8,7 +8,7 @@ use Rattle.ledger.specs.Ledger.{Proper, Conflict, written, copy_at, Settled, Val
 
 -- What a site can say of a request: its "own mark" where that is a vote, OK or one of the others, and its verdict.
 pub data Word : Type 0 where
-  votes-ok votes-against accepts rejects : Word
+  votes_ok votes_against accepts rejects : Word
   deriving Discrete as Word-discrete
 
 -- What a table shows. A request is known by its place. `given` has the stamps that may have been issued.
@@ -22,15 +22,15 @@ pub record View (X : Type 0) : Type 0 where
 module _ {X : Type 0} where
   -- the event of the site s saying k of r
   abbrev pub event : Word → ℕ → Request X → Event X
-  event votes-ok s r = ok s r
-  event votes-against s r = against s r
+  event votes_ok s r = ok s r
+  event votes_against s r = against s r
   event accepts s r = accept s r
   event rejects s r = reject s r
 
   -- the copy of the site t after s said k of r: accepting writes, nothing else does
   abbrev pub copy_after : Word → (ℕ → ℕ → Reading X) → ℕ → Request X → ℕ → ℕ → Reading X
-  copy_after votes-ok c s r t = c t
-  copy_after votes-against c s r t = c t
+  copy_after votes_ok c s r t = c t
+  copy_after votes_against c s r t = c t
   copy_after accepts c s r t = cond (eqb t s) (written (c t) r) (c t)
   copy_after rejects c s r t = c t
 
@@ -78,16 +78,16 @@ module _ {X : Type 0} (n : ℕ) where
 
   -- the site s can vote OK on the request at p
   pub record CanOk (v : View X) (s p : ℕ) : Type 0 where
-    pub free : v.says votes-against s p ≡ false
+    pub free : v.says votes_against s p ≡ false
     pub same : (i : ℕ) → (v.request p).base i ≡ true → (v.copy s i).stamp ≡ (v.request p).base_stamp i
-    pub clear : (q : ℕ) → v.held q ≡ true → v.says votes-ok s q ≡ true → Conflict (v.request q) (v.request p) → Judged v s q
+    pub clear : (q : ℕ) → v.held q ≡ true → v.says votes_ok s q ≡ true → Conflict (v.request q) (v.request p) → Judged v s q
 
   -- the site s can say k of the request at p
   abbrev pub Can : Word → View X → ℕ → ℕ → Type 0
-  Can votes-ok v s p = CanOk v s p
-  Can votes-against v s p = v.says votes-ok s p ≡ false
-  Can accepts v s p = Enough (majority n) v votes-ok p
-  Can rejects v s p = Enough (blocking n) v votes-against p
+  Can votes_ok v s p = CanOk v s p
+  Can votes_against v s p = v.says votes_ok s p ≡ false
+  Can accepts v s p = Enough (majority n) v votes_ok p
+  Can rejects v s p = Enough (blocking n) v votes_against p
 
   -- The site s says k of the request at p, and nothing else changes but its copy where it accepts.
   pub record Says (k : Word) (s p : ℕ) (v w : View X) : Type 0 where

@@ -1,4 +1,6 @@
 // Numbers and answers as text, written into a lent buffer.
+#![tactic(auto)]
+
 ghost use Rattle.std.specs.Prelude.{◌≡◌, ◌+◌, ◌≤◌, ◌<◌, ◌&&◌, [], ◌∷◌, eqb, pos, nat_abs, length, take};
 ghost use Rattle.kit.specs.Lists.{put, placed};
 ghost use Rattle.lines.specs.Lines.{decimal_of, signed_of, field, line_of, back_of, fitted, Wrote};

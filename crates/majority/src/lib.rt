@@ -1,4 +1,6 @@
 // How many voters decide.
+#![tactic(auto)]
+
 ghost use Rattle.std.specs.Prelude.{◌≡◌};
 ghost use Rattle.majority.specs.Majority.{majority, blocking};
 

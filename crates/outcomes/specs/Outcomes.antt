@@ -24,11 +24,11 @@ OneOutcome {n} ps r promise =
 
 -- The same, where the promise fixes what one of the last values says and not how that is written: the last values are equal as they are read.
 abbrev pub OneOutcomeRead : {n : ℕ} (ps : List (ParamKind n)) (r : ResultKind n) → Out n ps r → {B : Type 0} → ((κs : Lfts n) (a : Dens κs ps) → Lasts (ended_of n ps r) κs a → B) → Type 0
-OneOutcomeRead {n} ps r promise asRead =
+OneOutcomeRead {n} ps r promise as_read =
     (κs : Lfts n) (a : Dens κs ps) (result result' : (res_t r κs).Denot) (lasts lasts' : Lasts (ended_of n ps r) κs a)
     → promise κs a result (at_exit (ended_of n ps r) κs a lasts)
     → promise κs a result' (at_exit (ended_of n ps r) κs a lasts')
-    → (result ≡ result') × (asRead κs a lasts ≡ asRead κs a lasts')
+    → (result ≡ result') × (as_read κs a lasts ≡ as_read κs a lasts')
 
 -- the first of the last values read so, or the rest of them, and all else as it stands
 abbrev pub first_as : {A B C : Type 0} → (A → C) → A × B → C × B

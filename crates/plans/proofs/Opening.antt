@@ -177,10 +177,10 @@ module _
           ∙ sym (changed_at 7 (forgotten p) (sites_from ups lasts stamps values votes queues waitings oks others) no_site i l (rw length_sites l)))
 
       -- what is held back is so by the rows
-      module _ (letters : List (List ℕ)) (told-oks told-others : List (List Bool)) where
+      module _ (letters : List (List ℕ)) (told_oks told_others : List (List Bool)) where
         pub held_back_is
             : (n : ℕ)
-            → held_back_by n votes letters p ≡ held_back n (sites_from ups lasts stamps values votes queues waitings oks others) (messages_from letters told-oks told-others) p
+            → held_back_by n votes letters p ≡ held_back n (sites_from ups lasts stamps values votes queues waitings oks others) (messages_from letters told_oks told_others) p
         unfolding held_back_by
         held_back_is n =
             rw (
@@ -188,6 +188,6 @@ module _
                   (λ k. ltb k n && is_open (vote_at (get_or (sites_from ups lasts stamps values votes queues waitings oks others) k no_site).votes p).verdict) 7
                   (λ k h. ap (λ (s : Site). ltb k n && is_open (vote_at s.votes p).verdict) (sym (site_there k h))),
               any_same (λ j. is_letter (get_or letters j []) && eqb (get_or (get_or letters j []) 1 0) p)
-                  (λ j. (get_or (messages_from letters told-oks told-others) j no_message).used && eqb (get_or (messages_from letters told-oks told-others) j no_message).request p) 64
-                  (λ j h. ap (λ (m : Message). m.used && eqb m.request p) (sym (message_there letters told-oks told-others h))),
+                  (λ j. (get_or (messages_from letters told_oks told_others) j no_message).used && eqb (get_or (messages_from letters told_oks told_others) j no_message).request p) 64
+                  (λ j h. ap (λ (m : Message). m.used && eqb m.request p) (sym (message_there letters told_oks told_others h))),
             )

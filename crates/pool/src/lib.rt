@@ -1,4 +1,6 @@
 // The message pool, lent as a slice: losing a message, and the lowest free place.
+#![tactic(auto)]
+
 ghost use Rattle.std.specs.Prelude.{◌≡◌, not, length};
 ghost use Rattle.pool.specs.Pool.{emptied, lowest_free};
 

@@ -1,4 +1,6 @@
 // Items and readings.
+#![tactic(auto)]
+
 ghost use Rattle.std.specs.Prelude.{◌≡◌};
 ghost use Rattle.readings.specs.Readings.{movement_of, position_of, in_range, is_zero};
 

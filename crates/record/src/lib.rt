@@ -1,5 +1,7 @@
 // Step records: from bytes to steps. Document 01, "Step records and the bench program".
 // What a record stands for is said in specs/; body.rt has a reader for each kind of body.
+#![tactic(auto)]
+
 mod body;
 
 ghost use Rattle.std.specs.Prelude.{cond, [], ◌≡◌, eqb};

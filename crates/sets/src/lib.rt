@@ -1,4 +1,6 @@
 // Sets of items in a u32: bit i is set if item i is in the set. A set of items has no bit above 23.
+#![tactic(auto)]
+
 ghost use Rattle.std.specs.Prelude.{◌≡◌};
 ghost use Rattle.sets.specs.Sets.{member, with_item, union, meets, inside, size, of_items};
 

@@ -1,4 +1,6 @@
 // The site file: reader and writer.
+#![tactic(auto)]
+
 ghost use Rattle.std.specs.Prelude.{◌≡◌, ◌+◌, ◌-◌, ◌*◌, ◌≤◌, not, ◌++◌, eqb, pos, length, get_or, take, drop};
 ghost use Rattle.kit.specs.Range.{any, number};
 ghost use Rattle.kit.specs.Lists.{put};

@@ -1,4 +1,6 @@
 // Stamps and priority.
+#![tactic(auto)]
+
 ghost use Rattle.std.specs.Prelude.{◌≡◌, ◌<◌, ◌^◌, max};
 ghost use Rattle.stamps.specs.Stamps.{stamp_of, time_of, digit_of, issued_form, well_formed, largest_time, next_time, higher};
 ghost use Rattle.stamps.specs.Issue.{issued, issue_number};

@@ -11,7 +11,7 @@ use Rattle.plans.specs.declared.answer.Answer.{Answer}
 use Rattle.record.specs.declared.Step.{Step}
 use Rattle.table.specs.Sound.{count_right, sound_table}
 use Rattle.table.specs.declared.data.Table.{Table}
-use Rattle.steps.specs.Answers.{refusedAs}
+use Rattle.steps.specs.Answers.{refused_as}
 use Rattle.steps.specs.Numbers.{begin_number, tell_number, deliver_number, drop_number, down_number, up_number, retire_number, read_number}
 use Rattle.steps.specs.Steps.{unless_refused, begun, told, delivered, dropped, put_up, retired, readings, advanced, stepped}
 use Rattle.steps.specs.declared.answer.Stepped.{Stepped}
@@ -53,7 +53,7 @@ module _ (t : Table) (a : Step) {z : Stepped} where
 
   pub code_none
       : (a.code ≡ 1 → ⊥) → (a.code ≡ 2 → ⊥) → (a.code ≡ 3 → ⊥) → (a.code ≡ 4 → ⊥) → (a.code ≡ 5 → ⊥) → (a.code ≡ 6 → ⊥) → (a.code ≡ 7 → ⊥)
-      → (a.code ≡ 8 → ⊥) → z ≡ refusedAs 2 t → z ≡ advanced t a
+      → (a.code ≡ 8 → ⊥) → z ≡ refused_as 2 t → z ≡ advanced t a
   unfolding advanced
   code_none n1 n2 n3 n4 n5 n6 n7 n8 r =
       rw (ne_eqb a.code 1 n1, ne_eqb a.code 2 n2, ne_eqb a.code 3 n3, ne_eqb a.code 4 n4, ne_eqb a.code 5 n5, ne_eqb a.code 6 n6, ne_eqb a.code 7 n7, ne_eqb a.code 8 n8)

@@ -37,7 +37,7 @@ use Rattle.walk.specs.Parts.{with_row, stored_row}
 use Rattle.walk.specs.Walking as walking
 use Rattle.walk.specs.Walking.{accepts, rejects}
 use Rattle.walk.specs.declared.walking.Settled as code
-use Rattle.steps.specs.Answers.{Done, steppedAs}
+use Rattle.steps.specs.Answers.{Done, stepped_as}
 use Rattle.steps.specs.Numbers.{cannot_tell, no_message_at, cannot_retire, tell_number, drop_number, down_number, up_number, retire_number, read_number}
 use Rattle.steps.specs.Opened.{SiteRows, RequestRows, MessageRows, table_from, site_rows, request_rows, message_rows, LongRequests, LongMessages}
 use Rattle.steps.specs.Steps.{unless_refused, told, dropped, put_up, retired, readings}
@@ -54,7 +54,7 @@ stored_none d l = listed_same 24 (λ i. cond (member 0 i) (get_or l i d) d) (λ 
 pub refused_is : (d : Done) {number k : ℕ} {t : Table} {w : Answer} → number ≡ k → (number ≡ 0 → ⊥) → w ≡ refusal number → record { answer = w; table = t } ≡ unless_refused k d t
 refused_is d {number} e ne hw = rw (hw, ← e, ne_eqb number 0 ne)
 
-pub done_is : (d : Done) (t : Table) {number k : ℕ} {z : Stepped} → number ≡ k → number ≡ 0 → z ≡ steppedAs d → z ≡ unless_refused k d t
+pub done_is : (d : Done) (t : Table) {number k : ℕ} {z : Stepped} → number ≡ k → number ≡ 0 → z ≡ stepped_as d → z ≡ unless_refused k d t
 done_is d t e zero_is hz = rw (← e, zero_is) hz
 
 -- ---- the rows with some of them changed
@@ -160,7 +160,7 @@ module _ (n : ℕ) (few : n ≤ 7) (s : SiteRows) (q : RequestRows) (m : Message
 
   turned_is
       : (up : Bool) → length s.ups ≡ 7 → no_such_digit n a.site ≡ false
-      → ◌≡◌ {A = Stepped} (record { answer = refusal 0; table = table_from n (with_ups (set s.ups (site_index a.site) up) s) q m }) (steppedAs (put_up up T₁ a))
+      → ◌≡◌ {A = Stepped} (record { answer = refusal 0; table = table_from n (with_ups (set s.ups (site_index a.site) up) s) q m }) (stepped_as (put_up up T₁ a))
   unfolding put_up accepts rejects table_from
   turned_is up l y =
       let r = site_is y in

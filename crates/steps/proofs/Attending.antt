@@ -33,7 +33,7 @@ use Rattle.walk.specs.Parts.{requests_from, with_row, stored_row}
 use Rattle.walk.specs.Walking as walking
 use Rattle.walk.specs.Walking.{accepts, rejects, left}
 use Rattle.walk.specs.declared.walking.Settled as code
-use Rattle.steps.specs.Answers.{steppedAs}
+use Rattle.steps.specs.Answers.{stepped_as}
 use Rattle.steps.specs.Numbers.{no_message_at, begin_number, deliver_number}
 use Rattle.steps.specs.Opened.{SiteRows, RequestRows, MessageRows, table_from, site_rows, request_rows, LongSites, LongRequests}
 use Rattle.steps.specs.Steps.{unless_refused, entered, begun, delivered}
@@ -241,7 +241,7 @@ module _ (n : ℕ) (s : SiteRows) (q : RequestRows) (m : MessageRows) (a : Step)
             answer = record { number = planned.answer.number; first = planned.answer.first; second = planned.answer.second; accepted = accepts (taken_up (site_index a.site) n u.requests x (free_in q.names)).log; rejected = rejects (taken_up (site_index a.site) n u.requests x (free_in q.names)).log };
             table = with_site (site_index a.site) (taken_up (site_index a.site) n u.requests x (free_in q.names)).site u;
           })
-          (steppedAs (begun T a))
+          (stepped_as (begun T a))
       unfolding begun table_from
       entered_done hu hx =
           rw (hx, hu, plan_is, begin_site.0, site_at_lem n s q m (a.site - 1) begin_site.1, free_place_of n s q m)

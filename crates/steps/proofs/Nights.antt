@@ -19,7 +19,7 @@ use Rattle.table.specs.declared.fresh.FreshTable.{FreshTable}
 use Rattle.table.specs.Meaning.{ShapedTable}
 use Rattle.table.proofs.FreshSound.{fresh_shaped, fresh_answers}
 use Rattle.table.proofs.Meaning.{means, meant}
-use Rattle.steps.specs.Answers.{refusedAs}
+use Rattle.steps.specs.Answers.{refused_as}
 use Rattle.steps.specs.Night.{Parted, parted, before, answered, answered_on, line_for, last_line, lines_of, lines_from, night_of, Part, no_part, one_part, is_full, part_from, Buffered}
 use Rattle.steps.specs.Night.Buffered.{reads, runs, ends}
 use Rattle.steps.specs.Steps.{advanced, stepped}

@@ -72,16 +72,16 @@ module _ (t : Table) where
   pub opening
       : length t.messages ≡ 64
       → {ups : List Bool} {lasts : List ℕ} {stamps : List (List ℕ)} {values : List (List ℤ)} {votes queues : List (List ℕ)} {waitings : List ℕ} {oks others : List (List Bool)}
-      → {names bases updates based : List ℕ} {news : List ℤ} {letters : List (List ℕ)} {told-oks told-others : List (List Bool)}
+      → {names bases updates based : List ℕ} {news : List ℤ} {letters : List (List ℕ)} {told_oks told_others : List (List Bool)}
       → ups ≡ ups_in t.sites → lasts ≡ lasts_in t.sites → stamps ≡ stamps_in t.sites → values ≡ values_in t.sites
       → votes ≡ votes_in t.sites
       → sites_from (ups_in t.sites) (lasts_in t.sites) (stamps_in t.sites) (values_in t.sites) votes (queues_in t.sites) (waitings_in t.sites) (oks_in t.sites) (others_in t.sites) ≡ t.sites
       → queues ≡ queues_in t.sites → waitings ≡ waitings_in t.sites → oks ≡ oks_in t.sites → others ≡ others_in t.sites
       → names ≡ names_of t.requests → bases ≡ bases_of t.requests → updates ≡ updates_of t.requests → based ≡ based_of t.requests
       → requests_from (heads_from (names_of t.requests) (bases_of t.requests) (updates_of t.requests)) based (news_of t.requests) ≡ t.requests
-      → news ≡ news_of t.requests → letters ≡ letters_in t.messages → told-oks ≡ told_oks_in t.messages → told-others ≡ told_others_in t.messages
-      → (LongRows (site_rows ups lasts stamps values votes queues waitings oks others) (request_rows names bases updates based news) (message_rows letters told-oks told-others))
-      × (table_from t.count (site_rows ups lasts stamps values votes queues waitings oks others) (request_rows names bases updates based news) (message_rows letters told-oks told-others) ≡ t)
+      → news ≡ news_of t.requests → letters ≡ letters_in t.messages → told_oks ≡ told_oks_in t.messages → told_others ≡ told_others_in t.messages
+      → (LongRows (site_rows ups lasts stamps values votes queues waitings oks others) (request_rows names bases updates based news) (message_rows letters told_oks told_others))
+      × (table_from t.count (site_rows ups lasts stamps values votes queues waitings oks others) (request_rows names bases updates based news) (message_rows letters told_oks told_others) ≡ t)
   opening l h1 h2 h3 h4 h5 hs h6 h7 h8 h9 h10 h11 h12 h13 hq h14 h15 h16 h17 =
       rw (h1, h2, h3, h4, h5, h6, h7, h8, h9, h10, h11, h12, h13, h14, h15, h16, h17)
       (long_rows, rows_whole l (rw h5 at hs) (rw h13 at hq))

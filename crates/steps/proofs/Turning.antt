@@ -148,9 +148,9 @@ pub record Replied (n : ℕ) (s : SiteRows) (q : RequestRows) (m : MessageRows) 
 pub replied_there
     : {n : ℕ} {s : SiteRows} {q : RequestRows} {m : MessageRows} {free : ℕ} {w : Answer} {z : Stepped} → Replied n s q m free w z
     → {ups : List Bool} {lasts : List ℕ} {stamps : List (List ℕ)} {values : List (List ℤ)} {votes queues : List (List ℕ)} {waitings : List ℕ} {oks others : List (List Bool)}
-    → {names bases updates based : List ℕ} {news : List ℤ} {letters : List (List ℕ)} {told-oks told-others : List (List Bool)} {fr : ℕ} {y : Answer}
+    → {names bases updates based : List ℕ} {news : List ℤ} {letters : List (List ℕ)} {told_oks told_others : List (List Bool)} {fr : ℕ} {y : Answer}
     → ups ≡ s.ups → lasts ≡ s.lasts → stamps ≡ s.stamps → values ≡ s.values → votes ≡ s.votes → queues ≡ s.queues → waitings ≡ s.waitings → oks ≡ s.oks → others ≡ s.others
     → names ≡ q.names → bases ≡ q.bases → updates ≡ q.updates → based ≡ q.based → news ≡ q.news
-    → letters ≡ m.letters → told-oks ≡ m.oks → told-others ≡ m.others → fr ≡ free → y ≡ w
-    → Replied n (site_rows ups lasts stamps values votes queues waitings oks others) (request_rows names bases updates based news) (message_rows letters told-oks told-others) fr y z
+    → letters ≡ m.letters → told_oks ≡ m.oks → told_others ≡ m.others → fr ≡ free → y ≡ w
+    → Replied n (site_rows ups lasts stamps values votes queues waitings oks others) (request_rows names bases updates based news) (message_rows letters told_oks told_others) fr y z
 replied_there r e1 e2 e3 e4 e5 e6 e7 e8 e9 e10 e11 e12 e13 e14 e15 e16 e17 e18 e19 = rw (e1, e2, e3, e4, e5, e6, e7, e8, e9, e10, e11, e12, e13, e14, e15, e16, e17, e18, e19) r

@@ -17,8 +17,8 @@ pub record Done : Type 0 where
 abbrev pub answer_of : Done → Answer
 answer_of d = record { number = 0; first = d.first; second = d.second; accepted = accepts d.log; rejected = rejects d.log }
 
-abbrev pub steppedAs : Done → Stepped
-steppedAs d = record { answer = answer_of d; table = d.table }
+abbrev pub stepped_as : Done → Stepped
+stepped_as d = record { answer = answer_of d; table = d.table }
 
-abbrev pub refusedAs : ℕ → Table → Stepped
-refusedAs number t = record { answer = refusal number; table = t }
+abbrev pub refused_as : ℕ → Table → Stepped
+refused_as number t = record { answer = refusal number; table = t }

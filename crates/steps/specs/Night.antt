@@ -10,7 +10,7 @@ use Rattle.record.specs.declared.Step.{Step}
 use Rattle.table.specs.Fresh.{fresh_for}
 use Rattle.table.specs.Sound.{sound_table}
 use Rattle.table.specs.declared.data.Table.{Table}
-use Rattle.steps.specs.Answers.{refusedAs}
+use Rattle.steps.specs.Answers.{refused_as}
 use Rattle.steps.specs.Steps.{advanced, stepped}
 use Rattle.steps.specs.declared.answer.Stepped.{Stepped}
 use Rattle.steps.specs.declared.run.Ran.{Ran}
@@ -37,7 +37,7 @@ parted s = parted_by (length s) s
 
 -- the answer to a record, and the table behind it: its step by `does`, or the number that the record reader gave
 abbrev pub answered_by : (Table → Step → Stepped) → Table → Record → Stepped
-answered_by does t r = cond (eqb r.number 0) (does t r.step) (refusedAs r.number t)
+answered_by does t r = cond (eqb r.number 0) (does t r.step) (refused_as r.number t)
 
 -- from any table, and from a sound one, where the two are the same
 unfoldable pub answered : Table → Record → Stepped

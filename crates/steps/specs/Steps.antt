@@ -14,7 +14,7 @@ use Rattle.vote.specs.Data.{blank_request, with_last, with_up}
 use Rattle.vote.specs.declared.data.Site.{Site}
 use Rattle.walk.specs.Hearing.{taken_up, received}
 use Rattle.walk.specs.Walking.{Out}
-use Rattle.steps.specs.Answers.{Done, steppedAs, refusedAs}
+use Rattle.steps.specs.Answers.{Done, stepped_as, refused_as}
 use Rattle.steps.specs.Numbers.{free_place, free_message, place_of, begin_number, tell_number, deliver_number, drop_number, down_number, up_number, retire_number, read_number}
 use Rattle.steps.specs.declared.answer.Stepped.{Stepped}
 
@@ -95,7 +95,7 @@ readings t a =
 
 -- refused with its number, or done
 abbrev pub unless_refused : ℕ → Done → Table → Stepped
-unless_refused number d t = cond (eqb number 0) (steppedAs d) (refusedAs number t)
+unless_refused number d t = cond (eqb number 0) (stepped_as d) (refused_as number t)
 
 -- from a sound table; "Any code from 9 to 255, and 0, is no step."
 unfoldable pub advanced : Table → Step → Stepped
@@ -108,8 +108,8 @@ advanced t a =
     (cond (eqb a.code 6) (unless_refused (up_number t a) (put_up true t a) t)
     (cond (eqb a.code 7) (unless_refused (retire_number t a) (retired t a) t)
     (cond (eqb a.code 8) (unless_refused (read_number t a) (readings t a) t)
-    (refusedAs 2 t))))))))
+    (refused_as 2 t))))))))
 
 -- "1: table not sound", then the step
 unfoldable pub stepped : Table → Step → Stepped
-stepped t a = cond (sound_table t) (advanced t a) (refusedAs 1 t)
+stepped t a = cond (sound_table t) (advanced t a) (refused_as 1 t)

@@ -18,7 +18,7 @@ use table::data::Table;
 use table::fresh::fresh;
 
 // How a night ended: document 01's number (3 for a bad site count, 17 for no input at all, else 0), and the table as the last record left it.
-#[derive(Drop)]
+#[derive(Clone, Copy)]
 struct Ended {
     number: u8,
     table: Table,
@@ -26,7 +26,7 @@ struct Ended {
 
 // Where a night stands: the table, the number of the next record, where in the buffer the bytes that wait begin and end, and whether it
 // goes on.
-#[derive(Drop)]
+#[derive(Clone, Copy)]
 struct Standing {
     table: Table,
     next: u64,

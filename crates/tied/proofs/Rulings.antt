@@ -10,7 +10,7 @@ use Rattle.kit.specs.Range.{number}
 use Rattle.kit.proofs.Bools.{clash, by_lt, by_eq}
 use Rattle.kit.proofs.Counts.{number_gap}
 use Rattle.ledger.specs.Ledger.{Reading, reading, writes, written}
-use Rattle.ledger.specs.View.{Word, votes-ok, votes-against, accepts, rejects, copy_after, Enough, Says, Goes}
+use Rattle.ledger.specs.View.{Word, votes_ok, votes_against, accepts, rejects, copy_after, Enough, Says, Goes}
 use Rattle.ledger.proofs.Link.{goes_says}
 use Rattle.majority.specs.Majority.{majority, blocking}
 use Rattle.table.specs.Places.{place_at, mark_at, with_site}
@@ -78,8 +78,8 @@ accepted_decides : RulingDecides accepts verdict.Accepted
 accepted_decides = record { now = λ m. refl; rest = go }
   where
     go : (l : Word) (m : Mark) → (l ≡ accepts → ⊥) → says_of l (record { mark = mark_after m; verdict = verdict.Accepted }) ≡ says_of l (record { mark = m; verdict = verdict.Open })
-    go votes-ok m ne = after_ok m
-    go votes-against m ne = after_other m
+    go votes_ok m ne = after_ok m
+    go votes_against m ne = after_other m
     go accepts m ne = absurd (ne refl)
     go rejects m ne = refl
 
@@ -87,8 +87,8 @@ rejected_decides : RulingDecides rejects verdict.Rejected
 rejected_decides = record { now = λ m. refl; rest = go }
   where
     go : (l : Word) (m : Mark) → (l ≡ rejects → ⊥) → says_of l (record { mark = mark_after m; verdict = verdict.Rejected }) ≡ says_of l (record { mark = m; verdict = verdict.Open })
-    go votes-ok m ne = after_ok m
-    go votes-against m ne = after_other m
+    go votes_ok m ne = after_ok m
+    go votes_against m ne = after_other m
     go accepts m ne = refl
     go rejects m ne = absurd (ne refl)
 
@@ -125,7 +125,7 @@ module _ (t : Table) (p : ℕ) (few : t.count ≤ 7) (u : Unvoiced t p) where
   own_marks : (kind : Mark → Bool) → ((m : Mark) → NoVote m → kind m ≡ false) → number 7 (λ k. kind (mark_at t k p)) ≡ number t.count (λ k. kind (mark_at t k p))
   own_marks kind none = number_gap (λ k. kind (mark_at t k p)) t.count 7 few (λ k a b. none (mark_at t k p) (u.none k a b))
 
-  pub enough_oks : backed t p verdict.Accepted ≡ true → Enough t.count (majority t.count) (view_of t) votes-ok p
+  pub enough_oks : backed t p verdict.Accepted ≡ true → Enough t.count (majority t.count) (view_of t) votes_ok p
   unfolding view_of
   enough_oks b = record {
     who = marks_ok t p;
@@ -133,7 +133,7 @@ module _ (t : Table) (p : ℕ) (few : t.count ≤ 7) (u : Unvoiced t p) where
     did = λ k l e. e;
   }
 
-  pub enough_others : backed t p verdict.Rejected ≡ true → Enough t.count (blocking t.count) (view_of t) votes-against p
+  pub enough_others : backed t p verdict.Rejected ≡ true → Enough t.count (blocking t.count) (view_of t) votes_against p
   unfolding view_of
   enough_others b = record {
     who = marks_other t p;

@@ -8,7 +8,7 @@ use lib.IntN.{ℤ}
 use lib.ListN.{length}
 use Rattle.kit.proofs.Bools.{by_eq}
 use Rattle.ledger.specs.Ledger.{History}
-use Rattle.ledger.specs.View.{Word, votes-ok, votes-against, accepts, rejects, View, quiet, Goes}
+use Rattle.ledger.specs.View.{Word, votes_ok, votes_against, accepts, rejects, View, quiet, Goes}
 use Rattle.ledger.proofs.Link.{goes_stay, goes_quiet}
 use Rattle.table.specs.Places.{with_site, with_message}
 use Rattle.table.specs.declared.data.Message.{Message}
@@ -29,8 +29,8 @@ use Rattle.tied.proofs.Votes.{SetsMark, reading_same}
 
 -- a mark that is no vote in the place of another says nothing
 mark_silent : (l : Word) (m : Mark) (v : Vote) → NoVote m → NoVote v.mark → says_of l (with_mark m v) ≡ says_of l v
-mark_silent votes-ok m v a b = a.no_ok ∙ sym b.no_ok
-mark_silent votes-against m v a b = a.no_other ∙ sym b.no_other
+mark_silent votes_ok m v a b = a.no_ok ∙ sym b.no_ok
+mark_silent votes_against m v a b = a.no_other ∙ sym b.no_other
 mark_silent accepts m v a b = refl
 mark_silent rejects m v a b = refl
 

@@ -10,7 +10,7 @@ use lib.IntN.{ℤ}
 use lib.ListN.{length}
 use Rattle.kit.proofs.Bools.{by_eq, up_to}
 use Rattle.ledger.specs.Ledger.{Reading, Request as LedgerRequest}
-use Rattle.ledger.specs.View.{Word, votes-ok, votes-against, accepts, rejects, copy_after, Quiet, Can, Says}
+use Rattle.ledger.specs.View.{Word, votes_ok, votes_against, accepts, rejects, copy_after, Quiet, Can, Says}
 use Rattle.stamps.specs.Stamps.{time_of, digit_of}
 use Rattle.table.specs.Places.{site_at, place_at, with_site}
 use Rattle.table.specs.declared.data.Table.{Table}
@@ -37,14 +37,14 @@ pub record Mute (s s' : Site) : Type 0 where
 -- ---- copies: at the site itself, whatever its number, and at the others
 
 copy_here : (w : Word) (c : ℕ → ℕ → Reading ℤ) (k : ℕ) (r : LedgerRequest ℤ) (i : ℕ) → copy_after w (λ (u : ℕ). c k) 0 r 0 i ≡ copy_after w c k r k i
-copy_here votes-ok c k r i = refl
-copy_here votes-against c k r i = refl
+copy_here votes_ok c k r i = refl
+copy_here votes_against c k r i = refl
 copy_here accepts c k r i = rw (eq-eqb k k refl)
 copy_here rejects c k r i = refl
 
 copy_else : (w : Word) (c : ℕ → ℕ → Reading ℤ) (k : ℕ) (r : LedgerRequest ℤ) (u i : ℕ) → (u ≡ k → ⊥) → c u i ≡ copy_after w c k r u i
-copy_else votes-ok c k r u i ne = refl
-copy_else votes-against c k r u i ne = refl
+copy_else votes_ok c k r u i ne = refl
+copy_else votes_against c k r u i ne = refl
 copy_else accepts c k r u i ne = rw (ne_eqb u k ne)
 copy_else rejects c k r u i ne = refl
 

@@ -15,7 +15,7 @@ use Rattle.kit.proofs.Bools.{clash, and_left, and_right, by_eq, by_lt, up_to}
 use Rattle.kit.proofs.Changes.{changed_at}
 use Rattle.kit.proofs.Listings.{listed_at, replicate_at}
 use Rattle.ledger.specs.Ledger.{begin, Proper, blank}
-use Rattle.ledger.specs.View.{Word, votes-ok, votes-against, accepts, rejects, Judged, Stays, Begins, Quiet, Goes, Tied}
+use Rattle.ledger.specs.View.{Word, votes_ok, votes_against, accepts, rejects, Judged, Stays, Begins, Quiet, Goes, Tied}
 use Rattle.ledger.proofs.Link.{goes_quiet, goes_begins, tied_fresh}
 use Rattle.sets.specs.Sets.{member, inside, of_items}
 use Rattle.sets.proofs.Members.{inside_at, some_item, items_inside}
@@ -87,8 +87,8 @@ entered_at t k p last q = with_request p q (with_site k (with_last last (site_at
 
 -- nothing said says nothing
 silent_says : (w : Word) (s : Site) (p : ℕ) → Nothing s p → says_of w (vote_at s.votes p) ≡ false
-silent_says votes-ok s p n = (unmarked_no_vote (vote_at s.votes p).mark n.unmarked).no_ok
-silent_says votes-against s p n = (unmarked_no_vote (vote_at s.votes p).mark n.unmarked).no_other
+silent_says votes_ok s p n = (unmarked_no_vote (vote_at s.votes p).mark n.unmarked).no_ok
+silent_says votes_against s p n = (unmarked_no_vote (vote_at s.votes p).mark n.unmarked).no_other
 silent_says accepts s p n = rw (open_is (vote_at s.votes p).verdict n.unruled)
 silent_says rejects s p n = rw (open_is (vote_at s.votes p).verdict n.unruled)
 

@@ -9,7 +9,7 @@ use lib.IntN.{ℤ, pos}
 use lib.ListN.{length, get_or}
 use Rattle.kit.proofs.Bools.{clash, and_left, and_right, both_true, by_test, by_eq}
 use Rattle.ledger.specs.Ledger.{Reading, Conflict, Request as LedgerRequest}
-use Rattle.ledger.specs.View.{Word, votes-ok, votes-against, accepts, rejects, copy_after, CanOk, Says, Goes}
+use Rattle.ledger.specs.View.{Word, votes_ok, votes_against, accepts, rejects, copy_after, CanOk, Says, Goes}
 use Rattle.ledger.proofs.Link.{goes_says}
 use Rattle.table.specs.Places.{site_at, place_at, used_place, mark_at, with_site}
 use Rattle.table.specs.declared.data.Table.{Table}
@@ -49,21 +49,21 @@ record Voices (w : Word) (m : Mark) : Type 0 where
   rest : (l : Word) (v : Vote) → NoVote v.mark → (l ≡ w → ⊥) → says_of l (with_mark m v) ≡ says_of l v
   keeps : (c : ℕ → ℕ → Reading ℤ) (r : LedgerRequest ℤ) (i : ℕ) → c 0 i ≡ copy_after w c 0 r 0 i
 
-ok_voices : Voices votes-ok mark.Ok
+ok_voices : Voices votes_ok mark.Ok
 ok_voices = record { now = λ d. refl; rest = go; keeps = λ c r i. refl }
   where
-    go : (l : Word) (v : Vote) → NoVote v.mark → (l ≡ votes-ok → ⊥) → says_of l (with_mark mark.Ok v) ≡ says_of l v
-    go votes-ok v n ne = absurd (ne refl)
-    go votes-against v n ne = sym n.no_other
+    go : (l : Word) (v : Vote) → NoVote v.mark → (l ≡ votes_ok → ⊥) → says_of l (with_mark mark.Ok v) ≡ says_of l v
+    go votes_ok v n ne = absurd (ne refl)
+    go votes_against v n ne = sym n.no_other
     go accepts v n ne = refl
     go rejects v n ne = refl
 
-against_voices : (m : Mark) → is_ok_vote m ≡ false → is_other m ≡ true → Voices votes-against m
+against_voices : (m : Mark) → is_ok_vote m ≡ false → is_other m ≡ true → Voices votes_against m
 against_voices m e f = record { now = λ d. f; rest = go; keeps = λ c r i. refl }
   where
-    go : (l : Word) (v : Vote) → NoVote v.mark → (l ≡ votes-against → ⊥) → says_of l (with_mark m v) ≡ says_of l v
-    go votes-ok v n ne = e ∙ sym n.no_ok
-    go votes-against v n ne = absurd (ne refl)
+    go : (l : Word) (v : Vote) → NoVote v.mark → (l ≡ votes_against → ⊥) → says_of l (with_mark m v) ≡ says_of l v
+    go votes_ok v n ne = e ∙ sym n.no_ok
+    go votes_against v n ne = absurd (ne refl)
     go accepts v n ne = refl
     go rejects v n ne = refl
 
@@ -134,16 +134,16 @@ module _ (t : Table) (k : ℕ) (fits : k < length t.sites) (s : Site) (p : ℕ) 
 
     -- it votes OK, having considered the request
     pub ok_says : considered (heads_of t.requests) s.votes s.stamps (request_in t.requests p) ≡ outcome.Ok → SetsMark p mark.Ok s s'
-        → Says t.count votes-ok k p (view_of (with_site k s t)) (view_of (with_site k s' t))
+        → Says t.count votes_ok k p (view_of (with_site k s t)) (view_of (with_site k s' t))
     ok_says e m =
-        site_says t k fits on s s' votes-ok p held (mark_speaks votes-ok mark.Ok p (request_of (place_at t p)) ok_voices none m) (ok_can o.below none e)
+        site_says t k fits on s s' votes_ok p held (mark_speaks votes_ok mark.Ok p (request_of (place_at t p)) ok_voices none m) (ok_can o.below none e)
 
     -- it votes DR or REJ
     pub against_says : (m : Mark) → is_ok_vote m ≡ false → is_other m ≡ true → SetsMark p m s s'
-        → Says t.count votes-against k p (view_of (with_site k s t)) (view_of (with_site k s' t))
+        → Says t.count votes_against k p (view_of (with_site k s t)) (view_of (with_site k s' t))
     unfolding view_of
     against_says m e f w =
-        site_says t k fits on s s' votes-against p held (mark_speaks votes-against m p (request_of (place_at t p)) (against_voices m e f) none w)
+        site_says t k fits on s s' votes_against p held (mark_speaks votes_against m p (request_of (place_at t p)) (against_voices m e f) none w)
         (rw (site_same t k s fits) none.no_ok)
 
     -- it votes as it must, having considered the request
@@ -151,11 +151,11 @@ module _ (t : Table) (k : ℕ) (fits : k < length t.sites) (s : Site) (p : ℕ) 
         : (x : Outcome) → considered (heads_of t.requests) s.votes s.stamps (request_in t.requests p) ≡ x → defers x ≡ false → SetsMark p (mark_of x) s s'
         → Goes t.count (view_of (with_site k s t)) (view_of (with_site k s' t)) (vote_event k (request_of (place_at t p)) (mark_of x))
     unfolding view_of
-    vote_goes outcome.Rej e d m = goes_says votes-against k p (against_says mark.Rej refl refl m)
+    vote_goes outcome.Rej e d m = goes_says votes_against k p (against_says mark.Rej refl refl m)
     vote_goes outcome.DeferBase e d m = clash refl d
-    vote_goes outcome.Dr e d m = goes_says votes-against k p (against_says mark.Dr refl refl m)
+    vote_goes outcome.Dr e d m = goes_says votes_against k p (against_says mark.Dr refl refl m)
     vote_goes outcome.DeferPending e d m = clash refl d
-    vote_goes outcome.Ok e d m = goes_says votes-ok k p (ok_says e m)
+    vote_goes outcome.Ok e d m = goes_says votes_ok k p (ok_says e m)
 
 -- ---- the two votes: of a request that is new to the site, and of one in its queue
 

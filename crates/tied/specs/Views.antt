@@ -1,7 +1,7 @@
 -- What a table shows, in document 01's words: the requests that it holds, what each site says of them, each site's copy, the stamps given.
 use Rattle.std.specs.Prelude.{ℕ, Bool, true, false, ◌&&◌, leb, ltb, ℤ, pos, get_or}
 use Rattle.ledger.specs.Ledger.{Reading, Request as LedgerRequest}
-use Rattle.ledger.specs.View.{Word, votes-ok, votes-against, accepts, rejects, View}
+use Rattle.ledger.specs.View.{Word, votes_ok, votes_against, accepts, rejects, View}
 use Rattle.sets.specs.Sets.{member}
 use Rattle.stamps.specs.Stamps.{time_of}
 use Rattle.table.specs.Places.{site_at, place_at, used_place, last_of}
@@ -41,8 +41,8 @@ is_rejected verdict.Rejected = true
 
 -- "its own mark (none, deferred, OK, DR, REJ) .. and its verdict (open, accepted, rejected)": does a site that has said v say so?
 abbrev pub says_of : Word → Vote → Bool
-says_of votes-ok v = is_ok_vote v.mark
-says_of votes-against v = is_other v.mark
+says_of votes_ok v = is_ok_vote v.mark
+says_of votes_against v = is_other v.mark
 says_of accepts v = is_accepted v.verdict
 says_of rejects v = is_rejected v.verdict
 

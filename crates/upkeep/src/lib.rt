@@ -1,1 +1,3 @@
 // What keeps a table sound is theory: its definitions are in specs/, its theorems in proofs/. It has no code.
+#![tactic(auto)]
+

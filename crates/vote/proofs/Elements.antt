@@ -10,8 +10,8 @@ use mir.Val.{Val}
 
 -- P holds of the element at i, where it follows from what memory gives of one
 pub each_at
-    : (R : RattleType) (P : R.Denot → Type 0) → ((x : R.Denot) (u : Val) → shadow (R.own x (u ∷ [])) → P x) → (l : List R.Denot) (us : List Val)
-    → shadow (each R.Denot R.own l us) → (i : ℕ) (d : R.Denot) → i < length l → P (get_or l i d)
+    : (R : RattleType) (P : R.Denot → Type 0) → ((x : R.Denot) (u : Val) → shadow (R.own_val x (u ∷ [])) → P x) → (l : List R.Denot) (us : List Val)
+    → shadow (each R.Denot R.own_val l us) → (i : ℕ) (d : R.Denot) → i < length l → P (get_or l i d)
 each_at R P h [] us s i d b = absurd (not-suc-le-zero b)
 each_at R P h (x ∷ l) [] s i d b = absurd s
 each_at R P h (x ∷ l) (u ∷ us) s zero d b = h x u s.0

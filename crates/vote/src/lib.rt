@@ -1,4 +1,6 @@
 // All that one site (bench) does with one request at a time: document 01, "Requests and votes".
+#![tactic(auto)]
+
 pub mod consider;
 pub mod data;
 pub mod numbers;

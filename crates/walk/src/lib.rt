@@ -1,4 +1,6 @@
 // What one site does when verdicts fall: resolving and queue walking.
+#![tactic(auto)]
+
 mod considering;
 pub mod hearing;
 pub mod parts;

@@ -12,10 +12,10 @@ use Rattle.plans.proofs.letters.messages_from.Statement.{statement}
 use Rattle.plans.proofs.letters.messages_from.Tie as tie
 
 abbrev invariant-loop : tie.invariant-loop
-invariant-loop letters told-oks told-others all₀ j₀ all j = Laid 64 (λ i. letter_from (get_or letters i []) (get_or told-oks i []) (get_or told-others i [])) no_message all₀ j all
+invariant-loop letters told_oks told_others all₀ j₀ all j = Laid 64 (λ i. letter_from (get_or letters i []) (get_or told_oks i []) (get_or told_others i [])) no_message all₀ j all
 
 abbrev decreases-loop : tie.decreases-loop
-decreases-loop letters told-oks told-others all₀ j₀ all j = 64 - j
+decreases-loop letters told_oks told_others all₀ j₀ all j = 64 - j
 
 pub messages-from-spec : {M : Type 1} → statement M
 unfolding messages_from

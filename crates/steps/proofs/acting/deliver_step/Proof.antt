@@ -20,7 +20,7 @@ returns c =
     let d = c.before.before in
     let f = found d in
     let a = (start d).args in (
-      (λ ss vs lasts. deliver_refused a.n (site_rows a.ups.now lasts a.held-stamps.now a.held-values.now a.votes.now a.queues.now a.waitings.now a.oks.now a.others.now) (request_rows a.names.now a.bases.now a.updates.now a.based.now a.news.now) (message_rows a.letters.now a.told-oks.now a.told-others.now) (step_from a.a ss vs)
+      (λ ss vs lasts. deliver_refused a.n (site_rows a.ups.now lasts a.held-stamps.now a.held-values.now a.votes.now a.queues.now a.waitings.now a.oks.now a.others.now) (request_rows a.names.now a.bases.now a.updates.now a.based.now a.news.now) (message_rows a.letters.now a.told_oks.now a.told_others.now) (step_from a.a ss vs)
           f.before.before.before.index.ensures f.before.before.receiver-in.ensures f.before.index2.ensures f.clamp.ensures.0 d.before.before.is-used.ensures d.deliver_number_lem.ensures c.before.if1.true c.refuse.ensures),
       (start d).requires,
     )
@@ -37,7 +37,7 @@ returns-2 c =
     let d = numbered c in
     let f = found d in
     let a = (start d).args in (
-      (λ ss vs lasts. deliver_done a.n (site_rows a.ups.now lasts a.held-stamps.now a.held-values.now a.votes.now a.queues.now a.waitings.now a.oks.now a.others.now) (request_rows a.names.now a.bases.now a.updates.now a.based.now a.news.now) (message_rows a.letters.now a.told-oks.now a.told-others.now) (step_from a.a ss vs)
+      (λ ss vs lasts. deliver_done a.n (site_rows a.ups.now lasts a.held-stamps.now a.held-values.now a.votes.now a.queues.now a.waitings.now a.oks.now a.others.now) (request_rows a.names.now a.bases.now a.updates.now a.based.now a.news.now) (message_rows a.letters.now a.told_oks.now a.told_others.now) (step_from a.a ss vs)
           f.before.before.before.index.ensures f.before.before.receiver-in.ensures f.before.index2.ensures f.clamp.ensures.0 d.before.before.is-used.ensures d.deliver_number_lem.ensures
           c.before.before.before.before.before.before.before.before.before.before.before.before.before.if1.false (start d).pre
           c.before.before.before.before.before.before.before.before.before.before.before.before.clamp2.ensures.0 c.before.before.before.before.request_in_lem.ensures c.before.before.before.verdict-in.ensures

@@ -15,7 +15,7 @@ returns c =
     let s = d.before.before.before.before in
     let x = s.args in (
       λ n ss vs sr q.
-          let m = message_rows x.letters.now x.told-oks.now x.told-others.now in
+          let m = message_rows x.letters.now x.told_oks.now x.told_others.now in
           drop_refused n sr q m (step_from x.a ss vs) (drop_asked n sr q m (step_from x.a ss vs) d.before.before.before.index.ensures d.before.is-used.ensures d.drop_number_lem.ensures) c.before.if1.true c.refuse.ensures,
       (s.requires.0, s.requires.1),
     )
@@ -28,7 +28,7 @@ returns-2 c =
     let d = e.before in
     let s = d.before.before.before.before in
     let x = s.args in
-    let m = message_rows x.letters.now x.told-oks.now x.told-others.now in
+    let m = message_rows x.letters.now x.told_oks.now x.told_others.now in
     let j = d.before.before.before.index in
     let w = used_there d.drop_number_lem.ensures e.if1.false in (
       λ n ss vs sr q.

@@ -42,7 +42,7 @@ returns c =
     let x = s.args in
     let l = s.requires.1.1 in
     let e = c.begin_step_lem.ensures in
-    (code_1 _ (step_from x.a x.stamps.now x.values.now) k.match.keys1 (e.0 (message_rows x.letters.now x.told-oks.now x.told-others.now)), (s.requires.1.0, record { ups = l.ups; lasts = e.1.0; sites = e.1.1.0; requests = e.1.1.1; messages = l.messages }))
+    (code_1 _ (step_from x.a x.stamps.now x.values.now) k.match.keys1 (e.0 (message_rows x.letters.now x.told_oks.now x.told_others.now)), (s.requires.1.0, record { ups = l.ups; lasts = e.1.0; sites = e.1.1.0; requests = e.1.1.1; messages = l.messages }))
 
 returns-2 : tie.Need-returns-2
 returns-2 c =
@@ -78,7 +78,7 @@ returns-5 c =
     let x = s.args in
     let l = s.requires.1.1 in
     let e = c.down_step.ensures in
-    (code_5 _ (step_from x.a x.stamps.now x.values.now) k.match.keys5 (e.0 x.stamps.now x.values.now x.lasts.now x.held-stamps.now x.held-values.now x.votes.now x.queues.now x.waitings.now x.oks.now x.others.now (request_rows x.names.now x.bases.now x.updates.now x.based.now x.news.now) (message_rows x.letters.now x.told-oks.now x.told-others.now)), (s.requires.1.0, record { ups = e.1; lasts = l.lasts; sites = l.sites; requests = l.requests; messages = l.messages }))
+    (code_5 _ (step_from x.a x.stamps.now x.values.now) k.match.keys5 (e.0 x.stamps.now x.values.now x.lasts.now x.held-stamps.now x.held-values.now x.votes.now x.queues.now x.waitings.now x.oks.now x.others.now (request_rows x.names.now x.bases.now x.updates.now x.based.now x.news.now) (message_rows x.letters.now x.told_oks.now x.told_others.now)), (s.requires.1.0, record { ups = e.1; lasts = l.lasts; sites = l.sites; requests = l.requests; messages = l.messages }))
 
 returns-6 : tie.Need-returns-6
 returns-6 c =
@@ -87,7 +87,7 @@ returns-6 c =
     let x = s.args in
     let l = s.requires.1.1 in
     let e = c.up_step.ensures in
-    (code_6 _ (step_from x.a x.stamps.now x.values.now) k.match.keys6 (e.0 x.stamps.now x.values.now x.lasts.now x.held-stamps.now x.held-values.now x.votes.now x.queues.now x.waitings.now x.oks.now x.others.now (request_rows x.names.now x.bases.now x.updates.now x.based.now x.news.now) (message_rows x.letters.now x.told-oks.now x.told-others.now)), (s.requires.1.0, record { ups = e.1; lasts = l.lasts; sites = l.sites; requests = l.requests; messages = l.messages }))
+    (code_6 _ (step_from x.a x.stamps.now x.values.now) k.match.keys6 (e.0 x.stamps.now x.values.now x.lasts.now x.held-stamps.now x.held-values.now x.votes.now x.queues.now x.waitings.now x.oks.now x.others.now (request_rows x.names.now x.bases.now x.updates.now x.based.now x.news.now) (message_rows x.letters.now x.told_oks.now x.told_others.now)), (s.requires.1.0, record { ups = e.1; lasts = l.lasts; sites = l.sites; requests = l.requests; messages = l.messages }))
 
 returns-7 : tie.Need-returns-7
 returns-7 c =
@@ -96,7 +96,7 @@ returns-7 c =
     let x = s.args in
     let l = s.requires.1.1 in
     let e = c.retire-step.ensures in
-    (code_7 _ (step_from x.a x.stamps.now x.values.now) k.match.keys7 (e.0 x.stamps.now x.values.now x.ups.now x.lasts.now x.held-stamps.now x.held-values.now x.queues.now x.waitings.now x.told-oks.now x.told-others.now), (s.requires.1.0, record { ups = l.ups; lasts = l.lasts; sites = record { stamps = l.sites.stamps; values = l.sites.values; votes = e.1.1.0; queues = l.sites.queues; waitings = l.sites.waitings; oks = e.1.1.1.0; others = e.1.1.1.1 }; requests = e.1.0; messages = l.messages }))
+    (code_7 _ (step_from x.a x.stamps.now x.values.now) k.match.keys7 (e.0 x.stamps.now x.values.now x.ups.now x.lasts.now x.held-stamps.now x.held-values.now x.queues.now x.waitings.now x.told_oks.now x.told_others.now), (s.requires.1.0, record { ups = l.ups; lasts = l.lasts; sites = record { stamps = l.sites.stamps; values = l.sites.values; votes = e.1.1.0; queues = l.sites.queues; waitings = l.sites.waitings; oks = e.1.1.1.0; others = e.1.1.1.1 }; requests = e.1.0; messages = l.messages }))
 
 returns-8 : tie.Need-returns-8
 returns-8 c =
@@ -105,14 +105,14 @@ returns-8 c =
     let x = s.args in
     let l = s.requires.1.1 in
     let e = c.Read-step.ensures in
-    (code_8 _ (step_from x.a x.stamps.now x.values.now) k.match.keys8 (e x.stamps.now x.values.now x.lasts.now x.votes.now x.queues.now x.waitings.now x.oks.now x.others.now (request_rows x.names.now x.bases.now x.updates.now x.based.now x.news.now) (message_rows x.letters.now x.told-oks.now x.told-others.now)), (s.requires.1.0, l))
+    (code_8 _ (step_from x.a x.stamps.now x.values.now) k.match.keys8 (e x.stamps.now x.values.now x.lasts.now x.votes.now x.queues.now x.waitings.now x.oks.now x.others.now (request_rows x.names.now x.bases.now x.updates.now x.based.now x.news.now) (message_rows x.letters.now x.told_oks.now x.told_others.now)), (s.requires.1.0, l))
 
 returns-9 : tie.Need-returns-9
 returns-9 c =
     let s = c.before.before in
     let x = s.args in
     let a = step_from x.a x.stamps.now x.values.now in
-    let t = ap {B = Stepped} (λ (w : Answer). record { answer = w; table = table_from x.n (site_rows x.ups.now x.lasts.now x.held-stamps.now x.held-values.now x.votes.now x.queues.now x.waitings.now x.oks.now x.others.now) (request_rows x.names.now x.bases.now x.updates.now x.based.now x.news.now) (message_rows x.letters.now x.told-oks.now x.told-others.now) }) c.refuse.ensures in
+    let t = ap {B = Stepped} (λ (w : Answer). record { answer = w; table = table_from x.n (site_rows x.ups.now x.lasts.now x.held-stamps.now x.held-values.now x.votes.now x.queues.now x.waitings.now x.oks.now x.others.now) (request_rows x.names.now x.bases.now x.updates.now x.based.now x.news.now) (message_rows x.letters.now x.told_oks.now x.told_others.now) }) c.refuse.ensures in
     ⊎_elim (λ z. (code_none _ a (λ e. absurd (let y = z.keys9 in let v : ⊥ = omega (arith, e, y) in v)) (λ e. absurd (let y = z.keys9 in let v : ⊥ = omega (arith, e, y) in v)) (λ e. absurd (let y = z.keys9 in let v : ⊥ = omega (arith, e, y) in v)) (λ e. absurd (let y = z.keys9 in let v : ⊥ = omega (arith, e, y) in v)) (λ e. absurd (let y = z.keys9 in let v : ⊥ = omega (arith, e, y) in v)) (λ e. absurd (let y = z.keys9 in let v : ⊥ = omega (arith, e, y) in v)) (λ e. absurd (let y = z.keys9 in let v : ⊥ = omega (arith, e, y) in v)) (λ e. absurd (let y = z.keys9 in let v : ⊥ = omega (arith, e, y) in v)) t, s.requires.1))
     (λ z. let r = z.rest in
     (code_none _ a r.0.0.0.0.0.0.0.0.1 r.0.0.0.0.0.0.0.1 r.0.0.0.0.0.0.1 r.0.0.0.0.0.1 r.0.0.0.0.1 r.0.0.0.1 r.0.0.1 r.0.1 t, s.requires.1))

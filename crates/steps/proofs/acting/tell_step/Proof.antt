@@ -27,7 +27,7 @@ returns c =
       λ ss vs lasts stamps values queues waitings bases updates based news.
           let sr = site_rows x.ups.now lasts stamps values x.votes.now queues waitings x.oks.now x.others.now in
           let q = request_rows x.names.now bases updates based news in
-          let m = message_rows x.letters.now x.told-oks.now x.told-others.now in
+          let m = message_rows x.letters.now x.told_oks.now x.told_others.now in
           tell_refused x.n s.requires.0 sr q m (step_from x.a ss vs)
           (tell_asked x.n s.requires.0 sr q m (step_from x.a ss vs) k.site_index_lem.ensures.0 p.place-with.ensures s.requires.1.0 f.free_message_lem.ensures v.Said-at.ensures d.tell_number_lem.ensures)
           c.before.if1.true c.refuse.ensures,
@@ -52,7 +52,7 @@ returns-2 c =
     let k = p.before in
     let s = k.before in
     let x = s.args in
-    let m = message_rows x.letters.now x.told-oks.now x.told-others.now in
+    let m = message_rows x.letters.now x.told_oks.now x.told_others.now in
     let low = tell_low _ _ _ _ _ _ _ d.tell_number_lem.ensures t.if1.false _ f.free_message_lem.ensures in (
       λ ss vs lasts stamps values queues waitings bases updates based news.
           let sr = site_rows x.ups.now lasts stamps values x.votes.now queues waitings x.oks.now x.others.now in

@@ -19,12 +19,12 @@ use Rattle.steps.proofs.answering.answer_all.Statement.{statement}
 use Rattle.steps.proofs.answering.answer_all.Tie as tie
 
 abbrev invariant-loop : tie.invariant-loop
-invariant-loop t nth input output₀ end room ups₀ lasts₀ held-stamps₀ held-values₀ votes₀ queues₀ waitings₀ oks₀ others₀ names₀ bases₀ updates₀ based₀ news₀ letters₀ told-oks₀ told-others₀ free₀ stamps₀ values₀ digits₀ figures₀ at₀ to₀ next₀ output ups lasts held-stamps held-values votes queues waitings oks others names bases updates based news letters told-oks told-others free stamps values digits figures at to next =
-    Turning t nth input output₀ end room (table_from t.count (site_rows ups lasts held-stamps held-values votes queues waitings oks others) (request_rows names bases updates based news) (message_rows letters told-oks told-others))
-    (site_rows ups lasts held-stamps held-values votes queues waitings oks others) (request_rows names bases updates based news) (message_rows letters told-oks told-others) free digits figures output at to next
+invariant-loop t nth input output₀ end room ups₀ lasts₀ held-stamps₀ held-values₀ votes₀ queues₀ waitings₀ oks₀ others₀ names₀ bases₀ updates₀ based₀ news₀ letters₀ told-oks₀ told-others₀ free₀ stamps₀ values₀ digits₀ figures₀ at₀ to₀ next₀ output ups lasts held-stamps held-values votes queues waitings oks others names bases updates based news letters told_oks told_others free stamps values digits figures at to next =
+    Turning t nth input output₀ end room (table_from t.count (site_rows ups lasts held-stamps held-values votes queues waitings oks others) (request_rows names bases updates based news) (message_rows letters told_oks told_others))
+    (site_rows ups lasts held-stamps held-values votes queues waitings oks others) (request_rows names bases updates based news) (message_rows letters told_oks told_others) free digits figures output at to next
 
 abbrev decreases-loop : tie.decreases-loop
-decreases-loop t nth input output₀ end room ups₀ lasts₀ held-stamps₀ held-values₀ votes₀ queues₀ waitings₀ oks₀ others₀ names₀ bases₀ updates₀ based₀ news₀ letters₀ told-oks₀ told-others₀ free₀ stamps₀ values₀ digits₀ figures₀ at₀ to₀ next₀ output ups lasts held-stamps held-values votes queues waitings oks others names bases updates based news letters told-oks told-others free stamps values digits figures at to next = end - at
+decreases-loop t nth input output₀ end room ups₀ lasts₀ held-stamps₀ held-values₀ votes₀ queues₀ waitings₀ oks₀ others₀ names₀ bases₀ updates₀ based₀ news₀ letters₀ told-oks₀ told-others₀ free₀ stamps₀ values₀ digits₀ figures₀ at₀ to₀ next₀ output ups lasts held-stamps held-values votes queues waitings oks others names bases updates based news letters told_oks told_others free stamps values digits figures at to next = end - at
 
 -- the table as it came, and taken apart
 abbrev start_of : tie.After-told-others-of invariant-loop decreases-loop → tie.Start invariant-loop decreases-loop
@@ -65,7 +65,7 @@ room_fits c = search rules
 
 -- the table before the record, and the record
 abbrev table_at : tie.At-loop invariant-loop decreases-loop → Table
-table_at c = table_from (start c).args.t.count (site_rows c.loop.ups c.loop.lasts c.loop.held-stamps c.loop.held-values c.loop.votes c.loop.queues c.loop.waitings c.loop.oks c.loop.others) (request_rows c.loop.names c.loop.bases c.loop.updates c.loop.based c.loop.news) (message_rows c.loop.letters c.loop.told-oks c.loop.told-others)
+table_at c = table_from (start c).args.t.count (site_rows c.loop.ups c.loop.lasts c.loop.held-stamps c.loop.held-values c.loop.votes c.loop.queues c.loop.waitings c.loop.oks c.loop.others) (request_rows c.loop.names c.loop.bases c.loop.updates c.loop.based c.loop.news) (message_rows c.loop.letters c.loop.told_oks c.loop.told_others)
 
 abbrev record-at : tie.At-loop invariant-loop decreases-loop → Record
 record-at c = record_of (take ((sizes c).before.before.bytes-in.result - c.loop.at) (drop c.loop.at (start c).args.input.now))
@@ -98,7 +98,7 @@ turn-of c = c.before.before.before.before.before
 
 replied
     : (c : tie.Joined2 invariant-loop decreases-loop)
-    → Replied (start (turn-of c)).args.t.count (site_rows c.if2.ups c.if2.lasts c.if2.held-stamps c.if2.held-values c.if2.votes c.if2.queues c.if2.waitings c.if2.oks c.if2.others) (request_rows c.if2.names c.if2.bases c.if2.updates c.if2.based c.if2.news) (message_rows c.if2.letters c.if2.told-oks c.if2.told-others)
+    → Replied (start (turn-of c)).args.t.count (site_rows c.if2.ups c.if2.lasts c.if2.held-stamps c.if2.held-values c.if2.votes c.if2.queues c.if2.waitings c.if2.oks c.if2.others) (request_rows c.if2.names c.if2.bases c.if2.updates c.if2.based c.if2.news) (message_rows c.if2.letters c.if2.told_oks c.if2.told_others)
     c.if2.free c.if2.answer (answered_on (table_at (turn-of c)) (record-at (turn-of c)))
 replied c =
     let g = (turn-of c).loop.invariant in
@@ -131,7 +131,7 @@ written
     → let j = written_of c in
     let l = turn-of j in
     Going (part_from (start l).args.t (start l).args.nth (start l).args.input.now (length (start l).args.output.now)) (start l).args.input.now (start l).args.output.now (sizes l).before.before.bytes-in.result (sizes l).bytes-in2.result
-    (table_from (start l).args.t.count (site_rows j.if2.ups j.if2.lasts j.if2.held-stamps j.if2.held-values j.if2.votes j.if2.queues j.if2.waitings j.if2.oks j.if2.others) (request_rows j.if2.names j.if2.bases j.if2.updates j.if2.based j.if2.news) (message_rows j.if2.letters j.if2.told-oks j.if2.told-others)) c.write-answer.new.0 (l.loop.at + j.before.before.before.read_next.result.next) (l.loop.to + c.write-answer.result) (l.loop.next + 1)
+    (table_from (start l).args.t.count (site_rows j.if2.ups j.if2.lasts j.if2.held-stamps j.if2.held-values j.if2.votes j.if2.queues j.if2.waitings j.if2.oks j.if2.others) (request_rows j.if2.names j.if2.bases j.if2.updates j.if2.based j.if2.news) (message_rows j.if2.letters j.if2.told_oks j.if2.told_others)) c.write-answer.new.0 (l.loop.at + j.before.before.before.read_next.result.next) (l.loop.to + c.write-answer.result) (l.loop.next + 1)
 written c =
     let j = written_of c in
     let e = c.write-answer.ensures in

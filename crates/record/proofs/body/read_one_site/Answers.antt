@@ -1,0 +1,13 @@
+-- `record::body::read_one_site` meets its contract: as `read_tell`.
+use borrow.Author.Rules.{rules}
+use Rattle.record.specs.Bodies.{site_step}
+use Rattle.record.specs.Records.{brief_of}
+use Rattle.record.proofs.Codes.{sized_wrong, sized_right}
+use Rattle.record.proofs.body.read_one_site.Goals as goal
+
+pub returns-then-b-right : goal.returns-then-b-right
+returns-then-b-right c = sized_wrong _ _ c.if-b-right.true c.no_step.ensures
+
+pub returns : goal.returns
+unfolding brief_of site_step
+returns c = sized_right _ _ c.if-b-right.false (rw (c.no_step-r.ensures, c.byte_at.ensures))

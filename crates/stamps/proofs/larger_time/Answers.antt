@@ -1,0 +1,7 @@
+-- `stamps::larger_time` meets its contract.
+use native.Mathlib.Omega.{arith}
+use borrow.Author.Rules.{rules}
+use Rattle.stamps.proofs.larger_time.Goals as goal
+
+pub returns : goal.returns
+returns c = record { value = omega arith; small = λ h. omega arith }

@@ -1,0 +1,37 @@
+-- `vote::consider::is_blocked` meets its contract: a loop over the pending that returns at the first hit computes `any`.
+-- the request at place j conflicts with q
+-- the pending are among the 16 places
+use mathlib.Core.Bool.{Bool}
+use mathlib.Core.List.{List}
+use Prim.Native.Nat.{ℕ, ◌^◌, ◌<◌}
+use native.Mathlib.Omega.{arith}
+use borrow.Author.Rules.{rules}
+use Rattle.sets.proofs.Lowest.{Sought, sought_start, sought_item, sought_below, sought_less, sought_more, sought_found, sought_over}
+use Rattle.vote.specs.Data.{head_at, heads_from}
+use Rattle.vote.specs.Requests.{conflicts}
+use Rattle.vote.specs.declared.data.Head.{Head}
+use Rattle.vote.proofs.Considering.{conflict_means, pending_lt, blocked_from}
+use Rattle.vote.proofs.consider.is_blocked.Goals as goal
+use Rattle.vote.proofs.consider.is_blocked.Goals.{After-pending_in-left}
+use Rattle.vote.proofs.consider.is_blocked.Invariants.{stands}
+
+few : (c : After-pending_in-left) → c.pending_in-left.result < 2 ^ 16
+few c = pending_lt _ c.pending_in-left.ensures
+
+pub loop-left-init : goal.loop-left-init
+loop-left-init c = sought_start _ _ (omega (arith, few c))
+
+pub overflow_cast-j : goal.overflow_cast-j
+overflow_cast-j c = omega (arith, sought_item _ _ _ c.loop-left.invariant c.loop-left-test.true)
+
+pub returns-then-is_conflicting : goal.returns-then-is_conflicting
+returns-then-is_conflicting c = blocked_from _ _ _ c.pending_in-left.ensures (sought_found _ _ _ c.loop-left.invariant c.loop-left-test.true 16 (sought_below _ _ _ c.loop-left.invariant c.loop-left-test.true 16 (few (goal.at.returns-then-is_conflicting c).After-pending_in-left)) (conflict_means _ _ _ c.is_conflicting.ensures c.head_from.ensures c.if-is_conflicting.true))
+
+pub loop-left-smaller : goal.loop-left-smaller
+loop-left-smaller c = sought_less _ _ _ c.loop-left.invariant c.loop-left-test.true
+
+pub loop-left-preserved : goal.loop-left-preserved
+loop-left-preserved c = sought_more _ _ _ c.loop-left.invariant c.loop-left-test.true (conflict_means _ _ _ c.is_conflicting.ensures c.head_from.ensures c.if-is_conflicting.false)
+
+pub returns : goal.returns
+returns c = blocked_from _ _ _ c.pending_in-left.ensures (sought_over _ _ 16 _ c.loop-left.invariant c.loop-left-test.false)

@@ -1,0 +1,23 @@
+-- `vote::consider::is_blocked` meets its contract: a loop over the pending that returns at the first hit computes `any`.
+-- the request at place j conflicts with q
+-- the pending are among the 16 places
+use mathlib.Core.Bool.{Bool}
+use mathlib.Core.List.{List}
+use Prim.Native.Nat.{ℕ, ◌^◌, ◌<◌}
+use native.Mathlib.Omega.{arith}
+use borrow.Author.Rules.{rules}
+use Rattle.sets.proofs.Lowest.{Sought, sought_start, sought_item, sought_below, sought_less, sought_more, sought_found, sought_over}
+use Rattle.vote.specs.Data.{head_at, heads_from}
+use Rattle.vote.specs.Requests.{conflicts}
+use Rattle.vote.specs.declared.data.Head.{Head}
+use Rattle.vote.proofs.Considering.{conflict_means, pending_lt, blocked_from}
+use Rattle.vote.proofs.consider.is_blocked.Given as goal
+
+abbrev pub stands : Head → List Head → ℕ → Bool
+stands q heads j = conflicts q (head_at heads j)
+
+abbrev pub invariant-loop-left : goal.invariant-loop-left
+invariant-loop-left l = Sought l.initial.left (stands l.q (heads_from l.names l.bases l.updates)) l.left
+
+abbrev pub decreases-loop-left : goal.decreases-loop-left
+decreases-loop-left l = l.left

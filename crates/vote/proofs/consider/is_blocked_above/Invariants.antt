@@ -1,0 +1,23 @@
+-- `vote::consider::is_blocked_above` meets its contract: a loop over the pending that returns at the first hit computes `any`.
+-- and has higher priority
+-- the pending are among the 16 places
+use mathlib.Core.Bool.{Bool, ◌&&◌}
+use mathlib.Core.List.{List}
+use Prim.Native.Nat.{ℕ, ◌^◌, ◌<◌}
+use native.Mathlib.Omega.{arith}
+use borrow.Author.Rules.{rules}
+use Rattle.sets.proofs.Lowest.{Sought, sought_start, sought_item, sought_below, sought_less, sought_more, sought_found, sought_over}
+use Rattle.vote.specs.Data.{head_at, heads_from}
+use Rattle.vote.specs.Requests.{conflicts, outranks}
+use Rattle.vote.specs.declared.data.Head.{Head}
+use Rattle.vote.proofs.Considering.{above_means, pending_lt, above_from}
+use Rattle.vote.proofs.consider.is_blocked_above.Given as goal
+
+abbrev pub stands : Head → List Head → ℕ → Bool
+stands q heads j = conflicts q (head_at heads j) && outranks (head_at heads j) q
+
+abbrev pub invariant-loop-left : goal.invariant-loop-left
+invariant-loop-left l = Sought l.initial.left (stands l.q (heads_from l.names l.bases l.updates)) l.left
+
+abbrev pub decreases-loop-left : goal.decreases-loop-left
+decreases-loop-left l = l.left

@@ -1,0 +1,22 @@
+-- `vote::consider::is_newer` meets its contract: a loop over the items of the base set that returns at the first hit computes `any`.
+-- the copy of item i is the newer
+use mathlib.Core.Bool.{Bool}
+use mathlib.Core.List.{List}
+use Prim.Native.Nat.{ℕ, ◌^◌, ◌<◌}
+use native.Mathlib.Omega.{arith}
+use borrow.Author.Rules.{rules}
+use borrow.Author.Tests.{lt-ltb, le-ltb}
+use lib.Dec.{ltb}
+use lib.ListN.{get_or}
+use Rattle.sets.proofs.Lowest.{Sought, sought_start, sought_item, sought_less, sought_more, sought_found, sought_past, sought_over}
+use Rattle.vote.specs.Consider.{newer_copy}
+use Rattle.vote.proofs.consider.is_newer.Given as goal
+
+abbrev pub newer : List ℕ → List ℕ → ℕ → Bool
+newer based held i = ltb (get_or based i 0) (get_or held i 0)
+
+abbrev pub invariant-loop-left : goal.invariant-loop-left
+invariant-loop-left l = Sought l.base (newer l.based l.held) l.left
+
+abbrev pub decreases-loop-left : goal.decreases-loop-left
+decreases-loop-left l = l.left

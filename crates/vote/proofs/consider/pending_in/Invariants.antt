@@ -1,0 +1,27 @@
+-- `vote::consider::pending_in` meets its contract: after j turns it is the set of the pending below place j.
+-- the request at place j is pending
+-- a turn's place, and what it counts
+use mathlib.Core.Bool.{Bool}
+use mathlib.Core.List.{List}
+use mathlib.Core.Path.{◌≡◌, refl, sym, ap, ◌∙◌}
+use Prim.Native.Nat.{ℕ, ◌-◌, ◌≤◌, ◌<◌}
+use native.Mathlib.Omega.{arith}
+use borrow.Author.Rules.{rules}
+use Rattle.kit.specs.Range.{one}
+use Rattle.sets.specs.Sets.{set_of}
+use Rattle.sets.proofs.Laws.{made_more, made_lt}
+use Rattle.vote.specs.Consider.{pending_set}
+use Rattle.vote.specs.Numbers.{votes_from}
+use Rattle.vote.specs.Data.{is_pending, vote_at}
+use Rattle.vote.specs.declared.data.Vote.{Vote}
+use Rattle.vote.proofs.VoteNumbers.{votes_at}
+use Rattle.vote.proofs.consider.pending_in.Given as goal
+
+abbrev pub waits : List Vote → ℕ → Bool
+waits votes j = is_pending (vote_at votes j)
+
+abbrev pub invariant-loop-j : goal.invariant-loop-j
+invariant-loop-j l = (l.j ≤ 16) × (l.set ≡ set_of l.j (waits (votes_from l.votes)))
+
+abbrev pub decreases-loop-j : goal.decreases-loop-j
+decreases-loop-j l = 16 - l.j

@@ -1,0 +1,17 @@
+-- `vote::numbers::verdict_from` meets its contract: each number in turn.
+use mathlib.Core.Path.{refl}
+use borrow.Author.Tests.{eq-eqb, ne_eqb}
+use Rattle.vote.specs.Numbers.{verdict_from}
+use Rattle.vote.proofs.numbers.verdict_from.Goals as goal
+
+pub returns-then-c-eq0 : goal.returns-then-c-eq0
+unfolding verdict_from
+returns-then-c-eq0 c = rw (eq-eqb _ _ c.if-c-eq0.true) refl
+
+pub returns-then-c-eq1 : goal.returns-then-c-eq1
+unfolding verdict_from
+returns-then-c-eq1 c = rw (ne_eqb _ _ c.if-c-eq0.false, eq-eqb _ _ c.if-c-eq1.true) refl
+
+pub returns : goal.returns
+unfolding verdict_from
+returns c = rw (ne_eqb _ _ c.if-c-eq0.false, ne_eqb _ _ c.if-c-eq1.false) refl

@@ -1,0 +1,14 @@
+-- `vote::voters::list_voters` meets its contract: the voters of the row are gathered at the front.
+use mathlib.Core.Logic.{⊎_elim}
+use Prim.Native.Nat.{◌-◌}
+use borrow.Author.Rules.{rules}
+use native.Mathlib.Omega.{arith}
+use Rattle.kit.proofs.Gathers.{Gathered, gathered_none, gathered_more, gathered_skip, gathered_count, gathered_list}
+use Rattle.vote.specs.Voters.{has_voter, voter_list, voters_in, voters_listed}
+use Rattle.vote.proofs.voters.list_voters.Given as goal
+
+abbrev pub invariant-loop-u : goal.invariant-loop-u
+invariant-loop-u l = Gathered 7 (has_voter l.row) l.u l.count l.sites
+
+abbrev pub decreases-loop-u : goal.decreases-loop-u
+decreases-loop-u l = 7 - l.u
