@@ -11,16 +11,16 @@ use Prim.Native.Nat.{ℕ}
 use mathlib.Core.List.{List, [], ◌∷◌}
 use lib.ListN.{length}
 use seplogic.Ra.Ura.{Ura}
-use seplogic.Ra.TreeShare.{full_share}
+use base.Fraction.{full_share}
 use mir.Syntax.{Fn, Lifetime}
 use mir.Val.{Val, vptr}
 use base.Logic.{ent, id⊢}
-use base.Fml.{GName, fsep, flft, flent, fres}
+use base.Fml.{GName, Incl-refl, fsep, flft, flent, fres}
 use prog.Wp.{WpFn, Tables}
 use types.Logic.{Logic}
 use contract.Monad.{fact}
 use sound.WpLaws.{WpFn-mono}
-use types.Kit.{Goal, Soaks, Item, ‵, raw, some, later, ◌⊛◌, Seq, ◌$◌, move, drop, use1, use3, split, pick, fsplit, fjoin, fpick, fpack, feq_l, feq_i, await}
+use types.Kit.{Goal, Soaks, Item, ‵, raw, some, later, ◌⊛◌, Seq, ◌$◌, move, drop, use1, use2, use3, split, pick, fsplit, fjoin, fpick, fpack, feq_l, feq_i, await}
 use types.SemTy.{cells, Arr, Body}
 use types.Share.{arr_parts}
 use types.Tokens.{lft_new, lft_end, lent_back}
@@ -31,6 +31,7 @@ use denote.Index.{row, whole_out, whole_in}
 use denote.Lend.{Held, lends_ref, ref_back, lends_slice, slice_back, lends_shr_slice}
 use denote.Memory.{cell_at, part_at, mem, shares, part_of}
 use denote.Ref.{MutRef}
+use denote.Shares.{Shares}
 use denote.Signature.{type_at}
 use denote.Slice.{slice_val, MutSlice, ShrSlice, Room, finally}
 use denote.Steps.{heard}
@@ -56,15 +57,15 @@ module _ {M : Type 1} {𝓤 : Ura M} {𝓛 : Logic 𝓤} {K : Type 0} {Γ : List
 
   pub lends_local : K → Soaks G → (ℓ : Lifetime) (R : RattleType) (h : R.Denot) (vs : List Val) (b o : ℕ)
       → ((ν : ℕ) (δ : GName) → Seq K 𝓛 (‵ (flft (ν ∷ []) full_share) ∷ ‵ ((MutRef ℓ (ν ∷ []) R).own_val (record { ref_ptr = (b, o); ghost_name = δ; now = h }) (vptr b o ∷ [])) ∷ ‵ (flent (ν ∷ []) (Body (mem R) b o δ)) ∷ Γ) G)
-      → Seq K 𝓛 (‵ (cell_at full_share R.mir vs b o) ∷ ‵ (R.own h vs) ∷ Γ) G
+      → Seq K 𝓛 (‵ (cell_at full_share R.mir vs b o) ∷ ‵ (R.own_val h vs) ∷ Γ) G
   unfolding part_of
   lends_local t z ℓ R h vs b o k =
-      fjoin t $ fpack t (List Val) (λ us. fsep (cell_at full_share R.mir us b o) (R.own h us)) vs $ lft_new t z (λ ν. move t (1 ∷ []) $
+      fjoin t $ fpack t (List Val) (λ us. fsep (cell_at full_share R.mir us b o) (R.own_val h us)) vs $ lft_new t z (λ ν. move t (1 ∷ []) $
       use1 𝓛 (later (some (λ (δ : GName). ‵ ((MutRef ℓ (ν ∷ []) R).own_val (record { ref_ptr = (b, o); ghost_name = δ; now = h }) (vptr b o ∷ [])) ⊛ ‵ (flent (ν ∷ []) (Body (mem R) b o δ))))) (lends_ref 𝓛 R ℓ (ν ∷ []) h b o) $
       await t z $ pick t (λ δ. split t $ move t (2 ∷ []) $ k ν δ))
 
   pub local_back : K → Soaks G → (R : RattleType) (h : R.Denot) (b o : ℕ) {ν : ℕ} {δ : GName}
-      → ((vs : List Val) → Seq K 𝓛 (‵ (cell_at full_share R.mir vs b o) ∷ ‵ (R.own h vs) ∷ Γ) G)
+      → ((vs : List Val) → Seq K 𝓛 (‵ (cell_at full_share R.mir vs b o) ∷ ‵ (R.own_val h vs) ∷ Γ) G)
       → Seq K 𝓛 (‵ (flft (ν ∷ []) full_share) ∷ ‵ (flent (ν ∷ []) (Body (mem R) b o δ)) ∷ ‵ (fres δ (R.coded.code h)) ∷ Γ) G
   unfolding part_of
   local_back t z R h b o {ν} {δ} k =
@@ -104,14 +105,14 @@ module _ {M : Type 1} {𝓤 : Ura M} {𝓛 : Logic 𝓤} {K : Type 0} {Γ : List
 
   -- ---- it as a `&[R]`
 
-  pub shares_array : K → Soaks G → (ℓ : Lifetime) (R : RattleType) → Single R.mir → (n : ℕ) (xs : List R.Denot) (vs : List Val) (b o : ℕ) → Room R (length xs)
-      → ((ν : ℕ) (δ : GName) → Seq K 𝓛 (‵ (flft (ν ∷ []) full_share) ∷ ‵ ((ShrSlice ℓ (ν ∷ []) R).own_val (record { ref_ptr = (b, o); now = xs }) (slice_val (b, o) (length xs) ∷ [])) ∷ ‵ (flent (ν ∷ []) ((arr_parts (shares R) (length xs)).part full_share xs b o)) ∷ Γ) G)
+  pub shares_array : K → Soaks G → (ℓ : Lifetime) (R : RattleType) → Single R.mir → ((ν : ℕ) → Shares 𝓛 R (ν ∷ [])) → (n : ℕ) (xs : List R.Denot) (vs : List Val) (b o : ℕ) → Room R (length xs)
+      → ((ν : ℕ) → Seq K 𝓛 (‵ (flft (ν ∷ []) full_share) ∷ ‵ ((ShrSlice ℓ (ν ∷ []) R).own_val (record { ref_ptr = (b, o); now = xs }) (slice_val (b, o) (length xs) ∷ [])) ∷ ‵ (flent (ν ∷ []) ((arr_parts (shares R) (length xs)).part full_share xs b o)) ∷ Γ) G)
       → Seq K 𝓛 (‵ (cell_at full_share (Array R n).mir vs b o) ∷ ‵ ((Array R n).own_val xs vs) ∷ Γ) G
-  shares_array t z ℓ R one n xs vs b o room k =
+  shares_array t z ℓ R one law n xs vs b o room k =
       apart t R one n xs vs b o (feq_i t ℕ (length xs) (length xs) refl $ fjoin t $ lft_new t z (λ ν. move t (1 ∷ []) $
-      use1 𝓛 (later (some (λ (δ : GName). ‵ ((ShrSlice ℓ (ν ∷ []) R).own_val (record { ref_ptr = (b, o); now = xs }) (slice_val (b, o) (length xs) ∷ [])) ⊛ ‵ (flent (ν ∷ []) ((arr_parts (shares R) (length xs)).part full_share xs b o)))))
-      (lends_shr_slice 𝓛 R ℓ (ν ∷ []) full_share xs b o room) $
-      await t z $ pick t (λ δ. split t $ move t (2 ∷ []) $ k ν δ)))
+      use2 𝓛 (later ((‵ ((ShrSlice ℓ (ν ∷ []) R).own_val (record { ref_ptr = (b, o); now = xs }) (slice_val (b, o) (length xs) ∷ [])) ⊛ ‵ (flent (ν ∷ []) ((arr_parts (shares R) (length xs)).part full_share xs b o))) ⊛ ‵ (flft (ν ∷ []) full_share)))
+      (lends_shr_slice 𝓛 R ℓ (ν ∷ []) full_share xs b o room (ν ∷ []) (law ν) ((ν ∷ [], full_share) ∷ []) (Incl-refl (ν ∷ [])) (Incl-refl (ν ∷ []))) $
+      await t z $ split t $ split t $ move t (2 ∷ []) $ k ν))
 
   pub shared_back : K → Soaks G → (R : RattleType) (n : ℕ) (xs : List R.Denot) (b o : ℕ) → length xs ≡ n → {ν : ℕ}
       → ((vs : List Val) → Seq K 𝓛 (‵ (cell_at full_share (Array R n).mir vs b o) ∷ ‵ ((Array R n).own_val xs vs) ∷ Γ) G)

@@ -1,0 +1,13 @@
+-- `sitefile::count_measured` meets its contract: n of the items before the i-th were measured.
+use Prim.Native.Nat.{◌-◌, ◌<◌}
+use native.Mathlib.Omega.{arith}
+use borrow.Author.Rules.{rules}
+use Rattle.kit.proofs.Loops.{Counted, counted_fits, counts}
+use Rattle.sitefile.specs.Entries.{measured}
+use Rattle.sitefile.proofs.count_measured.Given as goal
+
+abbrev pub invariant-loop-i : goal.invariant-loop-i
+invariant-loop-i l = Counted 24 (measured l.stamps) l.i l.n
+
+abbrev pub decreases-loop-i : goal.decreases-loop-i
+decreases-loop-i l = 24 - l.i

@@ -1,0 +1,12 @@
+-- `sitefile::site_in` meets its contract: the byte 8 before the end.
+use borrow.Author.Rules.{rules}
+use Rattle.kit.proofs.Fields.{field_byte}
+use Rattle.sitefile.specs.Frame.{site_in}
+use Rattle.sitefile.proofs.site_in.Goals as goal
+
+pub overflow_cast-result : goal.overflow_cast-result
+overflow_cast-result c = search field_byte
+
+pub returns : goal.returns
+unfolding site_in
+returns c = rw c.before_end.ensures at c.read_field.ensures

@@ -1,0 +1,11 @@
+-- `sitefile::write_entries` meets its contract: the entries of the items before the i-th stand at the front.
+use Prim.Native.Nat.{◌-◌}
+use borrow.Author.Rules.{rules, sfits_of}
+use Rattle.sitefile.proofs.Writes.{WrittenTo, wrote_none, wrote_room, wrote_more, wrote_all}
+use Rattle.sitefile.proofs.write_entries.Given as goal
+
+abbrev pub invariant-loop-i : goal.invariant-loop-i
+invariant-loop-i l = WrittenTo l.initial.d l.stamps l.values l.i l.at l.d
+
+abbrev pub decreases-loop-i : goal.decreases-loop-i
+decreases-loop-i l = 24 - l.i

@@ -1,0 +1,28 @@
+-- `table::marks::marked_of` meets its contract: after k turns the marks of the first k sites are put in.
+use mathlib.Core.Path.{◌≡◌}
+use mathlib.Core.Bool.{Bool}
+use mathlib.Core.List.{List, []}
+use Prim.Native.Nat.{ℕ, ◌-◌, ◌≤◌}
+use native.Mathlib.Omega.{arith}
+use borrow.Author.Rules.{rules}
+use lib.ListN.{get_or}
+use Rattle.vote.specs.Data.{is_ok_vote, is_other, vote_at}
+use Rattle.vote.specs.declared.data.Mark.{Mark}
+use Rattle.table.specs.declared.marks.Ballot.{Ballot}
+use Rattle.table.proofs.Putting.{Gathered, gathered_none, gathered_site, gathered_long, gathered_all}
+use Rattle.table.proofs.marks.marked_of.Goals as goal
+
+pub loop-k-init : goal.loop-k-init
+loop-k-init c = search (gathered_none, arith)
+
+pub put_oks-requires : goal.put_oks-requires
+put_oks-requires c = record { k_bound = search (gathered_long, rules); oks_len = search (gathered_long, rules) }
+
+pub put_others-requires : goal.put_others-requires
+put_others-requires c = record { k_bound = search (gathered_long, rules); others_len = search (gathered_long, rules) }
+
+pub loop-k-preserved : goal.loop-k-preserved
+loop-k-preserved c = search (gathered_site, arith)
+
+pub returns : goal.returns
+returns c = record { oks = gathered_all is_ok_vote _ c.loop-k.invariant.1.0 (omega arith); others = gathered_all is_other _ c.loop-k.invariant.1.1 (omega arith) }

@@ -1,0 +1,14 @@
+-- `table::marks::put_oks` meets its contract: after p turns the marks of the first p places are put in.
+use mathlib.Core.Path.{◌≡◌}
+use Prim.Native.Nat.{◌-◌, ◌≤◌}
+use native.Mathlib.Omega.{arith}
+use borrow.Author.Rules.{rules}
+use Rattle.vote.specs.Data.{is_ok_vote, vote_at}
+use Rattle.table.proofs.Putting.{Put, put_none, put_more, marks_put_lem}
+use Rattle.table.proofs.marks.put_oks.Given as goal
+
+abbrev pub invariant-loop-p : goal.invariant-loop-p
+invariant-loop-p l = (l.p ≤ 16) × Put (λ q. is_ok_vote (vote_at l.votes q).mark) l.k l.initial.oks l.p l.oks
+
+abbrev pub decreases-loop-p : goal.decreases-loop-p
+decreases-loop-p l = 16 - l.p

@@ -1,0 +1,16 @@
+-- `walk::parts::put_values` meets its contract: after i turns the first i items are put.
+use mathlib.Core.Path.{◌≡◌}
+use Prim.Native.Nat.{◌-◌, ◌≤◌}
+use lib.IntN.{pos}
+use borrow.Author.Rules.{rules, sfits_of}
+use native.Mathlib.Omega.{arith}
+use mir.Facts.{to_z-of_z}
+use Rattle.walk.specs.Parts.{row_up_to}
+use Rattle.walk.proofs.TakenApart.{row_none, row_more, row_over}
+use Rattle.walk.proofs.parts.put_values.Given as goal
+
+abbrev pub invariant-loop-i : goal.invariant-loop-i
+invariant-loop-i l = (l.i ≤ 24) × (l.news ≡ row_up_to l.i (pos 0) l.initial.news l.p l.row)
+
+abbrev pub decreases-loop-i : goal.decreases-loop-i
+decreases-loop-i l = 24 - l.i

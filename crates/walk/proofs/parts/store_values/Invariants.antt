@@ -1,0 +1,16 @@
+-- `walk::parts::store_values` meets its contract: after i turns the first i items are stored.
+use mathlib.Core.Path.{◌≡◌}
+use Prim.Native.Nat.{◌-◌, ◌≤◌}
+use lib.IntN.{pos}
+use borrow.Author.Rules.{rules, sfits_of}
+use native.Mathlib.Omega.{arith}
+use Rattle.walk.specs.Parts.{row_up_to, stored_row}
+use Rattle.walk.proofs.Stored.{value_means}
+use Rattle.walk.proofs.TakenApart.{row_none, row_out, row_over, stored_more}
+use Rattle.walk.proofs.parts.store_values.Given as goal
+
+abbrev pub invariant-loop-i : goal.invariant-loop-i
+invariant-loop-i l = (l.i ≤ 24) × (l.news ≡ row_up_to l.i (pos 0) l.initial.news l.p (stored_row (pos 0) l.set l.values))
+
+abbrev pub decreases-loop-i : goal.decreases-loop-i
+decreases-loop-i l = 24 - l.i

@@ -1,0 +1,41 @@
+-- `walk::writing::write_at` meets its contract. The loop's invariant: the update items that are gone are written.
+use Prim.Native.Nat.{◌^◌, ◌<◌}
+use mathlib.Core.List.{[]}
+use mathlib.Core.Logic.{⊎_elim}
+use mathlib.Core.Path.{◌∙◌}
+use native.Mathlib.Omega.{arith}
+use borrow.Author.Rules.{rules, sfits_of}
+use lib.IntN.{pos}
+use mir.Facts.{to_z-of_z}
+use Rattle.sets.proofs.Lowest.{Done, done_start, done_item, done_in, done_less, done_more, done_before, done_past, done_over}
+use Rattle.vote.specs.Data.{request_of}
+use Rattle.walk.specs.Parts.{row_at}
+use Rattle.walk.proofs.WrittenItems.{Written, written_none, written_more, written_late, written_other, written_all}
+use Rattle.walk.proofs.writing.write_at.Goals as goal
+use Rattle.walk.proofs.writing.write_at.Goals.{Start}
+
+small : (c : Start) → c.args.q.update < 2 ^ 32
+small c = omega arith
+
+pub loop-left-init : goal.loop-left-init
+loop-left-init c = done_start (small c) (written_none _ _ _)
+
+pub overflow_cast-item : goal.overflow_cast-item
+overflow_cast-item c = omega (arith, done_item c.loop-left.invariant c.loop-left-test.true)
+
+pub returns-then-item-gt23 : goal.returns-then-item-gt23
+returns-then-item-gt23 c = let h = written_all (done_past written_other c.loop-left.invariant c.loop-left-test.true c.if-item-gt23.true) in record { stamps = h.0; values = h.1 }
+
+pub loop-left-smaller : goal.loop-left-smaller
+loop-left-smaller c = done_less c.loop-left.invariant c.loop-left-test.true
+
+pub loop-left-preserved : goal.loop-left-preserved
+loop-left-preserved c = let v = c.loop-left.invariant in
+    let ne = c.loop-left-test.true in
+    let b = done_before written_other v ne in
+    done_more v ne (omega arith)
+    (⊎_elim (λ w. written_more _ b (done_in v ne) (omega arith) w.2 w.3 (to_z-of_z (sfits_of w.1.ok) ∙ w.1.ensures))
+    (λ w. written_late _ b (omega arith) w.1 w.2) c.if-stamps-item.branch)
+
+pub returns : goal.returns
+returns c = let h = written_all (done_over written_other c.loop-left.invariant c.loop-left-test.false) in record { stamps = h.0; values = h.1 }
