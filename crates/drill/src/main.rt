@@ -6,11 +6,12 @@
 // It prints WHAT, COUNT and whether each call gave what it should. scripts/speed times it.
 #![tactic(auto)]
 
-ghost use Rattle.std.specs.Prelude.{◌≤◌};
+ghost use Rattle.std.specs.Prelude.{◌≤◌, length};
 
-use check::same;
-use libc::{STDERR_FILENO, STDOUT_FILENO};
 use record::{Step, blank_step};
+use std::env::FillError;
+use std::io;
+use std::rt::Env;
 use steps::step::step;
 use table::data::Table;
 use table::fresh::fresh;
@@ -191,15 +192,8 @@ fn repeat_step(mut t: Table, a: Step, b: Step, count: u64) -> bool {
     good
 }
 
-fn print_line(what: &[u8], count: u64, good: bool) {
-    io::write_all(STDOUT_FILENO, what);
-    io::write_all(STDOUT_FILENO, b" ");
-    io::print_decimal(STDOUT_FILENO, count);
-    if good {
-        io::write_all(STDOUT_FILENO, b" true\n");
-    } else {
-        io::write_all(STDOUT_FILENO, b" false\n");
-    }
+fn print_line(output: &impl Print, what: &str, count: u64, good: bool) -> io::Result<()> {
+    println!(output; "{what} {count} {good}")
 }
 
 fn digit(b: u8) -> u64
@@ -225,41 +219,50 @@ fn number_of(s: &[u8]) -> u64 {
     n
 }
 
-fn show(what: &[u8], count: u64) {
+fn show(rt: HostRuntime, what: &[u8], count: u64) -> io::Result<()> {
     let t = full();
-    if same(what, b"sound") {
-        print_line(what, count, repeat_sound(t, count));
-        return;
+    if what == &b"sound"[..] {
+        return print_line(&rt, "sound", count, repeat_sound(t, count));
     }
-    if same(what, b"read") {
+    if what == &b"read"[..] {
         let a = read_step(3, 5);
-        print_line(what, count, repeat_step(t, a, a, count));
-        return;
+        return print_line(&rt, "read", count, repeat_step(t, a, a, count));
     }
-    if same(what, b"tell") {
-        print_line(
-            what,
+    if what == &b"tell"[..] {
+        return print_line(
+            &rt,
+            "tell",
             count,
             repeat_step(t, message_step(4, 63), tell_step(1, 2441, 3), count),
         );
-        return;
     }
-    if same(what, b"deliver") {
+    if what == &b"deliver"[..] {
         let a = message_step(3, 20);
-        print_line(what, count, repeat_step(t, a, a, count));
-        return;
+        return print_line(&rt, "deliver", count, repeat_step(t, a, a, count));
     }
-    io::write_all(STDERR_FILENO, b"drill: no such call\n");
+    eprintln!(rt; "drill: no such call")
 }
 
-fn main() {
-    if os::arg_count() != 3 {
-        io::write_all(STDERR_FILENO, b"usage: drill WHAT COUNT\n");
-        return;
+// Whether the program has an argument of that number; argument 0 is its own name.
+fn has_argument(rt: HostRuntime, i: usize) -> bool {
+    let mut byte = [0u8; 1];
+    !matches!(rt.arg(i, &mut byte), Err(FillError::NotPresent))
+}
+
+// An argument at the front of a buffer; its length, 0 where there is none or the buffer is too short for it.
+fn argument(rt: HostRuntime, i: usize, buf: &mut [u8]) -> usize
+    ensures { result ≤ length buf.new }
+{
+    rt.arg(i, buf).unwrap_or(0)
+}
+
+fn main(rt: HostRuntime) -> io::Result<()> {
+    if !has_argument(rt, 2) || has_argument(rt, 3) {
+        return eprintln!(rt; "usage: drill WHAT COUNT");
     }
-    let mut what = io::buffer();
-    let n = os::arg(1, &mut what);
-    let mut count = io::buffer();
-    let m = os::arg(2, &mut count);
-    show(&what[..n], number_of(&count[..m]));
+    let mut what = [0u8; 4096];
+    let n = argument(rt, 1, &mut what);
+    let mut count = [0u8; 4096];
+    let m = argument(rt, 2, &mut count);
+    show(rt, &what[..n], number_of(&count[..m]))
 }

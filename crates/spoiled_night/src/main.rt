@@ -1,6 +1,6 @@
 // The bench program once more, on spoiled input (samples/spoiled.txt).
 #![tactic(auto)]
 
-fn main() {
-    stream::print_night();
+fn main(rt: HostRuntime) {
+    stream::print_night(rt.stdin(), rt.stdout());
 }

@@ -1,2 +1,3 @@
 -- What the contracts of the programs' shared loop cite.
+pub mod Counts
 pub mod Stands

@@ -1,14 +1,26 @@
 // The file of each site, siteN.six, written into the current folder.
 ghost use Rattle.std.specs.Prelude.{◌+◌, ◌≤◌, ◌<◌, true, ◌≡◌, length, take};
-ghost use Rattle.io.specs.Counts.{IsPrefixLen};
+ghost use Rattle.stream.specs.Counts.{IsPrefixLen};
 ghost use Rattle.sitefile.specs.Entries.{file_of};
 ghost use Rattle.table.specs.Places.{site_at};
 ghost use Rattle.table.specs.Sound.{sound_table};
 
 use kit::index;
-use libc::STDERR_FILENO;
 use sitefile::write_site_file;
+use std::fs;
+use std::rt::Files;
 use table::data::Table;
+
+// The name of the file of site k, whose digit is k + 1.
+const NAMES: [&str; 7] = [
+    "site1.six",
+    "site2.six",
+    "site3.six",
+    "site4.six",
+    "site5.six",
+    "site6.six",
+    "site7.six",
+];
 
 // Room for a site file: none is longer than 248 bytes.
 fn room() -> [u8; 248]
@@ -34,45 +46,35 @@ fn write_copy(t: Table, k: u8, buffer: &mut [u8]) -> usize
 }
 
 // Makes or overwrites the file of that name; whether all bytes went there.
-fn save(name: &[u8], bytes: &[u8]) -> bool {
-    let fd = os::open_overwrite(name);
-    if fd < 0 {
-        return false;
-    }
-    let all = io::write_all(fd, bytes);
-    if libc::close(fd) < 0 {
-        return false;
-    }
-    all
+fn save(files: &impl Files, name: &str, bytes: &[u8]) -> bool {
+    fs::write(files, name, bytes).is_ok()
 }
 
-fn cannot_write(name: &[u8]) {
-    io::write_all(STDERR_FILENO, b"site_files: cannot write ");
-    io::write_all(STDERR_FILENO, name);
-    io::write_all(STDERR_FILENO, b"\n");
+fn cannot_write(errors: &impl Eprint, name: &str) {
+    let _ = eprintln!(errors; "site_files: cannot write {name}");
 }
 
 // Writes the file of site k, or says that it cannot.
-fn save_copy(t: Table, k: u8)
+fn save_copy(rt: HostRuntime, t: Table, k: u8)
     requires t_value { sound_table t ≡ true }
     requires k_lt_count { k < t.count }
     requires count_bound { t.count ≤ 7 }
 {
-    let name = [b's', b'i', b't', b'e', b'1' + k, b'.', b's', b'i', b'x'];
+    let name = NAMES[index(k)];
     let mut buffer = room();
     let n = write_copy(t, k, &mut buffer);
-    if !save(&name, &buffer[..n]) {
-        cannot_write(&name);
+    if !save(&rt, name, &buffer[..n]) {
+        cannot_write(&rt, name);
     }
 }
 
 // Writes the file of each site.
-pub(crate) fn save_copies(t: Table)
+pub(crate) fn save_copies(rt: HostRuntime, t: Table)
     requires t_value { sound_table t ≡ true }
     requires count_bound { t.count ≤ 7 }
 {
     let n = t.count;
     for k in 0..n {
-        save_copy(t, k);
+        save_copy(rt, t, k);
     }
 }

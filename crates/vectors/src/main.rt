@@ -1,25 +1,24 @@
 // The published vectors of FNV-1a, 32 bits: a check in hexadecimal for each, one to a line.
 #![tactic(auto)]
 
-use libc::STDOUT_FILENO;
+use std::io;
 
-fn show(s: &[u8]) {
-    io::print_hex(STDOUT_FILENO, fnv::check(s) as u64, 8);
-    io::write_all(STDOUT_FILENO, b"\n");
+fn show(rt: &impl Print, s: &[u8]) -> io::Result<()> {
+    println!(rt; "{:08x}", fnv::check(s))
 }
 
-fn main() {
-    show(b"");
-    show(b"a");
-    show(b"b");
-    show(b"c");
-    show(b"d");
-    show(b"e");
-    show(b"f");
-    show(b"fo");
-    show(b"foo");
-    show(b"foob");
-    show(b"fooba");
-    show(b"foobar");
-    show(b"chongo was here!\n");
+fn main(rt: HostRuntime) -> io::Result<()> {
+    show(&rt, b"")?;
+    show(&rt, b"a")?;
+    show(&rt, b"b")?;
+    show(&rt, b"c")?;
+    show(&rt, b"d")?;
+    show(&rt, b"e")?;
+    show(&rt, b"f")?;
+    show(&rt, b"fo")?;
+    show(&rt, b"foo")?;
+    show(&rt, b"foob")?;
+    show(&rt, b"fooba")?;
+    show(&rt, b"foobar")?;
+    show(&rt, b"chongo was here!\n")
 }
