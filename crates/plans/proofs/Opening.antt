@@ -1,6 +1,6 @@
 -- A table taken apart and put together again: what stands where, one place put, and all sites forgetting.
 use Prim.Native.Nat.{ℕ, ◌<◌}
-use mathlib.Core.Bool.{Bool, false, ◌&&◌, ◌||◌}
+use mathlib.Core.Bool.{Bool, false, ◌&&◌}
 use mathlib.Core.List.{List, []}
 use mathlib.Core.Path.{◌≡◌, refl, sym, ap, ◌∙◌}
 use borrow.Author.Tests.{lt-ltb, le-ltb}
@@ -14,7 +14,6 @@ use Rattle.kit.proofs.Listings.{length_listed, listed_at}
 use Rattle.kit.proofs.Ranges.{any_same}
 use Rattle.kit.proofs.Turns.{listed_is, listed_set}
 use Rattle.kit.specs.Lists.{changed}
-use Rattle.kit.specs.Range.{any}
 use Rattle.table.specs.Places.{no_site, no_message}
 use Rattle.table.specs.declared.data.Message.{Message}
 use Rattle.vote.proofs.VoteNumbers.{votes_back, length_votes}

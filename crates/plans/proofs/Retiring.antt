@@ -6,7 +6,7 @@ use mathlib.Core.Path.{◌≡◌, refl}
 use native.Mathlib.Omega.{arith}
 use borrow.Author.Tests.{eq-eqb, ne_eqb, lt-ltb, le-ltb}
 use lib.Dec.{eqb, ltb}
-use lib.ListN.{get_or, set}
+use lib.ListN.{set}
 use Rattle.vote.specs.Data.{is_open}
 use Rattle.vote.specs.Voters.{clear_voters}
 use Rattle.vote.specs.declared.data.Vote.{Vote}

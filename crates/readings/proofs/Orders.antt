@@ -1,17 +1,15 @@
 -- A range of whole numbers, asked from below and then from above: `if z < low { return false; } z <= high`.
 use mathlib.Core.Path.{◌≡◌, refl, sym, ap, ◌∙◌}
 use mathlib.Core.Bool.{Bool, true, false, ◌&&◌}
-use Prim.Native.Nat.{ℕ}
 use borrow.Author.Tests.{ltb-true, ltb-false, le-leb, lt-leb, leb-true}
-use lib.Dec.{ltb, leb}
+use lib.Dec.{leb}
 use lib.IntN.{ℤ, pos, negsuc}
 use lib.Signed.{lt_z, le_z}
 use mir.Facts.{to_z-of_z}
 use mir.Syntax.{w32}
 use mir.Val.{SFits, to_z, of_z}
-use native.Mathlib.Nat.{le_antisymm}
 use native.Mathlib.Omega.{arith}
-use Rattle.kit.proofs.Bools.{clash, and_left, and_right}
+use Rattle.kit.proofs.Bools.{clash, and_right}
 use Rattle.readings.specs.Readings.{in_range, is_zero}
 
 below_not : (a b : ℤ) → lt_z a b ≡ true → le_z b a ≡ false

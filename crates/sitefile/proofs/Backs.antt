@@ -3,7 +3,7 @@
 use mathlib.Core.Path.{◌≡◌, refl, sym, ap, ap₂, ◌∙◌, subst}
 use mathlib.Core.Bool.{true, false}
 use mathlib.Core.List.{List, map, append_assoc}
-use Prim.Native.Nat.{ℕ, zero, suc, ◌-◌, ◌*◌, ◌≤◌, ◌<◌}
+use Prim.Native.Nat.{ℕ, zero, suc, ◌*◌, ◌≤◌, ◌<◌}
 use native.Mathlib.Nat.{lt_of_le_of_lt, mul-le-mul_left}
 use native.Mathlib.Omega.{arith}
 use borrow.Author.Tests.{eq-eqb, ne_eqb, eqb-true, eqb-false, lt-ltb, not-true, not-false}
@@ -11,7 +11,7 @@ use lib.Dec.{eqb}
 use lib.IntN.{ℤ, pos}
 use lib.ListN.{length, get_or, length-map, get_or-map}
 use Rattle.kit.specs.Lists.{listed}
-use Rattle.kit.specs.Range.{any, number, passing}
+use Rattle.kit.specs.Range.{any, passing}
 use Rattle.kit.proofs.Bools.{by_test}
 use Rattle.kit.proofs.Listings.{length_listed, listed_at, listed_same, listed_of, map_listed}
 use Rattle.kit.proofs.Passing.{Rising, passing_nth, passing_rises, passing_items}

@@ -1,10 +1,10 @@
 -- A blank site is sound beside any own marks: of a site behind the last nothing else is asked.
-use mathlib.Core.Path.{◌≡◌, refl, sym, ◌∙◌}
-use mathlib.Core.Bool.{Bool, true, false, not, ◌&&◌, cond}
+use mathlib.Core.Path.{◌≡◌, sym, ◌∙◌}
+use mathlib.Core.Bool.{Bool, true, not, ◌&&◌}
 use mathlib.Core.List.{List}
 use Prim.Native.Nat.{ℕ, ◌≤◌, ◌<◌}
 use native.Mathlib.Omega.{arith}
-use borrow.Author.Tests.{eq-eqb, eqb-true, le-leb, lt-leb, not-true}
+use borrow.Author.Tests.{eqb-true, le-leb, lt-leb, not-true}
 use lib.Dec.{eqb, leb}
 use lib.IntN.{pos}
 use lib.ListN.{get_or}
@@ -13,19 +13,19 @@ use Rattle.kit.proofs.Bools.{clash, and_left, and_right, both_true, implying, by
 use Rattle.kit.proofs.Ranges.{all_at, all_of, any_at}
 use Rattle.majority.specs.Majority.{majority, blocking}
 use Rattle.readings.specs.Readings.{is_zero}
-use Rattle.vote.specs.Data.{is_ok_vote, is_other, is_unmarked, is_deferred, is_open, vote_at}
+use Rattle.vote.specs.Data.{is_unmarked, is_deferred, is_open, vote_at}
 use Rattle.vote.specs.Queue.{queued_at}
 use Rattle.vote.specs.Voters.{has_voter, voters_of, voters_in, are_among, no_voters, none_known}
 use Rattle.vote.specs.declared.data.Site.{Site}
 use Rattle.vote.specs.declared.data.Vote.{Vote}
 use Rattle.vote.proofs.MarkKinds.{open_is, unmarked_is}
-use Rattle.table.specs.Blank.{zeros, zero_values, blank_vote, holds_nothing, is_blank_site}
+use Rattle.table.specs.Blank.{zeros, zero_values, holds_nothing, is_blank_site}
 use Rattle.table.specs.Parts.{value_right, reading_sound, queue_end_blank, holding_sound, place_held, site_rest, site_sound}
 use Rattle.table.specs.Sound.{queue_exact, times_queued}
 use Rattle.table.specs.declared.marks.Marks.{Marks}
 use Rattle.table.proofs.Marked.{row_empty}
 use Rattle.table.proofs.Nothing.{nothing_means, blank_holds}
-use Rattle.table.proofs.Runs.{stamp_right, blank_right, reading_of}
+use Rattle.table.proofs.Runs.{blank_right, reading_of}
 
 none_among : (a b : List Bool) → no_voters a ≡ true → are_among a b ≡ true
 unfolding no_voters are_among

@@ -1,5 +1,5 @@
 -- "A fresh table has every site up, last t 0 and all else blank; it is sound": one proof for every number of sites from 1 to 7.
-use mathlib.Core.Path.{◌≡◌, refl, sym, ap, ◌∙◌}
+use mathlib.Core.Path.{◌≡◌, refl, ap, ◌∙◌}
 use mathlib.Core.Bool.{Bool, true, false, ◌&&◌}
 use Prim.Native.Nat.{ℕ, ◌≤◌, ◌<◌}
 use native.Mathlib.Omega.{arith}
@@ -11,7 +11,6 @@ use Rattle.kit.specs.Range.{all, number}
 use Rattle.kit.proofs.Bools.{clash, both_true, by_test, and_left, and_right}
 use Rattle.kit.proofs.Listings.{listed_at, length_listed}
 use Rattle.kit.proofs.Ranges.{all_of}
-use Rattle.majority.specs.Majority.{majority, blocking}
 use Rattle.majority.proofs.Majorities.{majority_some, blocking_some}
 use Rattle.readings.specs.Readings.{is_zero}
 use Rattle.readings.proofs.Orders.{zero_in_range}
@@ -19,7 +18,7 @@ use Rattle.stamps.proofs.Laws.{well_zero}
 use Rattle.vote.specs.Data.{is_ok_vote, is_other, is_unmarked, is_deferred, is_open, no_vote, blank_request, vote_at}
 use Rattle.vote.specs.Queue.{queued_at}
 use Rattle.vote.specs.Shape.{ShapedSite}
-use Rattle.vote.specs.Voters.{knows, has_voter, none_known, voters_known, no_known, no_row}
+use Rattle.vote.specs.Voters.{has_voter, none_known, no_known, no_row}
 use Rattle.vote.proofs.KnownVoters.{knows_nobody, voters_nobody}
 use Rattle.vote.proofs.Rows.{row_none, nobody_of, unknown_of}
 use Rattle.vote.specs.declared.data.Request.{Request}
@@ -29,7 +28,7 @@ use Rattle.table.specs.declared.data.Message.{Message}
 use Rattle.table.specs.Blank.{zeros, zero_values, blank_vote, is_blank_request, holds_nothing, is_blank_site, is_blank_message}
 use Rattle.table.specs.Fresh.{blank_site, blank_message, blank_table, fresh_for}
 use Rattle.table.specs.Meaning.{Holding, SoundSite, SoundPlace, SoundMessage, Sound, ShapedRequest, ShapedMessage, ShapedTable}
-use Rattle.table.specs.Places.{no_site, no_message, site_at, message_at, place_at, mark_at, verdict_at}
+use Rattle.table.specs.Places.{no_site, site_at, message_at, place_at}
 use Rattle.table.specs.Sound.{queue_exact, times_queued, backed, count_right, sound_table}
 use Rattle.table.proofs.Meaning.{meant}
 

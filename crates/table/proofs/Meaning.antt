@@ -1,20 +1,19 @@
 -- From `soundTable` to what it means for every site, place, item and message, and back.
-use mathlib.Core.Path.{◌≡◌, refl, sym, ap, ◌∙◌}
-use mathlib.Core.Bool.{Bool, true, false, not, ◌&&◌, ◌||◌}
-use Prim.Native.Nat.{ℕ, ◌≤◌, ◌<◌}
-use native.Mathlib.Omega.{arith}
-use borrow.Author.Tests.{eqb-true, eqb-false, eq-eqb, ne_eqb, leb-true, leb-false, le-leb, lt-leb, ltb-true, ltb-false, lt-ltb, le-ltb, not-true, not-false}
+use mathlib.Core.Path.{◌≡◌, ap}
+use mathlib.Core.Bool.{Bool, true, not, ◌&&◌, ◌||◌}
+use Prim.Native.Nat.{ℕ, ◌<◌}
+use borrow.Author.Tests.{eqb-true, eqb-false, eq-eqb, ne_eqb, leb-true, le-leb, ltb-true, ltb-false, lt-ltb, le-ltb, not-true, not-false}
 use lib.Dec.{eqb, leb, ltb}
 use lib.IntN.{pos}
 use lib.ListN.{get_or}
-use Rattle.kit.specs.Range.{all, number, implies}
-use Rattle.kit.proofs.Bools.{clash, and_left, and_right, both_true, implied, implying, by_test}
+use Rattle.kit.specs.Range.{all, implies}
+use Rattle.kit.proofs.Bools.{and_left, and_right, both_true, implied, implying, by_test}
 use Rattle.kit.proofs.Ranges.{all_at, all_of}
 use Rattle.majority.specs.Majority.{majority, blocking}
 use Rattle.readings.specs.Readings.{in_range, is_zero}
 use Rattle.readings.proofs.Orders.{zero_is, zero_of}
 use Rattle.stamps.specs.Stamps.{time_of, issued_form, well_formed}
-use Rattle.vote.specs.Data.{is_ok_vote, is_other, is_unmarked, is_deferred, is_open, vote_at}
+use Rattle.vote.specs.Data.{is_unmarked, is_deferred, is_open}
 use Rattle.vote.specs.Queue.{queued_at}
 use Rattle.vote.specs.Voters.{knows, has_voter, none_known, voters_known}
 use Rattle.table.specs.Blank.{is_blank_request, holds_nothing, is_blank_site, is_blank_message}

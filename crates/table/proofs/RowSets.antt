@@ -1,8 +1,8 @@
 -- A row of voters as a set: made digit by digit, and one row among another.
 use mathlib.Core.Path.{◌≡◌, refl, sym, ◌∙◌}
-use mathlib.Core.Bool.{Bool, true, false, not, ◌&&◌}
+use mathlib.Core.Bool.{Bool, true, false}
 use mathlib.Core.List.{List}
-use Prim.Native.Nat.{ℕ, suc, ◌+◌, ◌*◌, ◌^◌, ◌≤◌, ◌<◌}
+use Prim.Native.Nat.{ℕ, ◌+◌, ◌*◌, ◌^◌, ◌≤◌, ◌<◌}
 use native.Mathlib.Nat.{pow-suc}
 use native.Mathlib.Numerals.{add-one}
 use native.Mathlib.Omega.{arith}
@@ -10,12 +10,11 @@ use lib.ListN.{get_or}
 use lib.Pow.{pow_mono}
 use mir.Syntax.{w32}
 use mir.Val.{Fits}
-use Rattle.kit.specs.Lists.{listed}
 use Rattle.kit.specs.Range.{all, one, implies}
 use Rattle.kit.proofs.Bools.{clash, implied, implying, same_test, by_lt}
 use Rattle.kit.proofs.Listings.{listed_at}
 use Rattle.kit.proofs.Ranges.{all_at, all_of}
-use Rattle.sets.specs.Sets.{member, set_of, inside}
+use Rattle.sets.specs.Sets.{set_of, inside}
 use Rattle.sets.proofs.Laws.{set_of_lt, member_set_of, member_set_of_above}
 use Rattle.sets.proofs.Members.{inside_at, inside_of}
 use Rattle.vote.specs.Voters.{has_voter, voters_of, are_among}

@@ -1,9 +1,9 @@
 -- Stamps and values asked one behind the other: a stamp that stands behind the same stamp needs no test, tests that are all made, and the items
 -- of a set.
 use mathlib.Core.Path.{◌≡◌, refl, sym, ◌∙◌}
-use mathlib.Core.Bool.{Bool, true, false, not, ◌&&◌, cond, and-true}
+use mathlib.Core.Bool.{Bool, true, false, not, ◌&&◌, and-true}
 use mathlib.Core.List.{List}
-use Prim.Native.Nat.{ℕ, suc, ◌+◌, ◌-◌, ◌^◌, ◌≤◌, ◌<◌}
+use Prim.Native.Nat.{ℕ, ◌+◌, ◌-◌, ◌^◌, ◌≤◌, ◌<◌}
 use native.Mathlib.Numerals.{add-one}
 use native.Mathlib.Omega.{arith}
 use borrow.Author.Tests.{eq-eqb, ne_eqb, le-leb, not-true, not-false}
@@ -19,7 +19,7 @@ use Rattle.readings.specs.Readings.{in_range, is_zero}
 use Rattle.readings.proofs.Orders.{zero_is}
 use Rattle.sets.specs.Sets.{member}
 use Rattle.sets.proofs.Lowest.{Sought, sought_start, sought_item, sought_less, sought_over, sought_past, sought_more, item_in}
-use Rattle.stamps.specs.Stamps.{well_formed, time_of}
+use Rattle.stamps.specs.Stamps.{well_formed}
 use Rattle.vote.specs.declared.data.Site.{Site}
 use Rattle.table.specs.Parts.{time_right, value_right, reading_sound}
 use Rattle.table.specs.Sound.{reading_allowed}

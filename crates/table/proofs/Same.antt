@@ -1,15 +1,15 @@
 -- The test that is computed part by part is `soundTable`.
-use mathlib.Core.Path.{◌≡◌, refl, sym, ap, ap₂, ◌∙◌}
-use mathlib.Core.Bool.{Bool, true, false, not, ◌&&◌, ◌||◌, cond}
+use mathlib.Core.Path.{◌≡◌, refl, sym, ap, ◌∙◌}
+use mathlib.Core.Bool.{Bool, true, false, not, ◌&&◌, cond}
 use mathlib.Core.List.{List, []}
 use Prim.Native.Nat.{ℕ, ◌-◌, ◌≤◌, ◌<◌}
 use native.Mathlib.Omega.{arith}
-use borrow.Author.Tests.{eqb-true, eqb-false, eq-eqb, ne_eqb, leb-true, leb-false, le-leb, lt-leb, ltb-true, ltb-false, lt-ltb, le-ltb, not-true, not-false}
+use borrow.Author.Tests.{eqb-true, eqb-false, eq-eqb, ne_eqb, leb-true, leb-false, le-leb, lt-leb, ltb-true, lt-ltb, not-true}
 use lib.Dec.{eqb, leb, ltb}
 use lib.IntN.{pos}
 use lib.ListN.{get_or}
-use Rattle.kit.specs.Range.{all, number, implies}
-use Rattle.kit.proofs.Bools.{clash, and_left, and_right, both_true, implied, implying, by_test, by_eq, by_lt, same_test, of_cond}
+use Rattle.kit.specs.Range.{all, implies}
+use Rattle.kit.proofs.Bools.{clash, and_left, and_right, both_true, implied, implying, by_test, by_eq, same_test, of_cond}
 use Rattle.kit.proofs.Listings.{listed_at}
 use Rattle.kit.proofs.Ranges.{all_at, all_of, all_same, number_same}
 use Rattle.majority.specs.Majority.{majority, blocking}
@@ -19,13 +19,13 @@ use Rattle.stamps.specs.Stamps.{time_of, digit_of, issued_form, well_formed}
 use Rattle.stamps.proofs.Laws.{digit_lt}
 use Rattle.vote.specs.Data.{is_ok_vote, is_other, is_unmarked, is_deferred, is_open, vote_at, request_at}
 use Rattle.vote.specs.Queue.{queued_at}
-use Rattle.vote.specs.Voters.{knows, voters_of, voters_for, has_voter, are_among, no_voters, voters_in, none_known, voters_known}
+use Rattle.vote.specs.Voters.{voters_of, has_voter, are_among, no_voters, voters_in, none_known, voters_known}
 use Rattle.vote.proofs.Rows.{row_for, row_known, row_number, nobody_at}
 use Rattle.vote.specs.declared.data.Site.{Site}
 use Rattle.vote.specs.declared.data.Verdict.{Verdict}
 use Rattle.vote.specs.declared.data.Verdict.TheVariants as verdict
 use Rattle.vote.specs.declared.data.Vote.{Vote}
-use Rattle.table.specs.Blank.{blank_vote, is_blank_request, holds_nothing, is_blank_site, is_blank_message}
+use Rattle.table.specs.Blank.{blank_vote, holds_nothing, is_blank_site, is_blank_message}
 use Rattle.table.specs.Meaning.{Holding, SoundSite, SoundPlace, SoundMessage, Sound}
 use Rattle.table.specs.Parts.{lasts_of, stamps_of, ballots_of, marks_at, marks_of, marks_in, time_right, stamp_new, used_sound, request_sound, reading_sound, queue_end_blank, backed_by, holding_sound, place_held, site_rest, site_sound, message_sound, parts_sound}
 use Rattle.table.specs.Places.{no_site, site_at, message_at, place_at, mark_at, verdict_at, last_of}

@@ -1,15 +1,15 @@
 -- The test of soundness as the code asks it, one law for each of its ways: the parts in turn, and that they are the whole.
-use mathlib.Core.Path.{◌≡◌, refl, sym, ◌∙◌}
+use mathlib.Core.Path.{◌≡◌, sym, ◌∙◌}
 use mathlib.Core.Bool.{Bool, true, false, not, ◌&&◌}
 use mathlib.Core.List.{List, []}
-use Prim.Native.Nat.{ℕ, ◌+◌, ◌/◌, ◌%◌, ◌≤◌, ◌<◌}
+use Prim.Native.Nat.{ℕ, ◌/◌, ◌%◌, ◌≤◌, ◌<◌}
 use borrow.Author.Tests.{not-true, not-false, eq-eqb, ne_eqb}
-use lib.Dec.{eqb, leb}
+use lib.Dec.{leb}
 use lib.ListN.{get_or}
 use Rattle.kit.specs.Lists.{listed}
 use Rattle.kit.specs.Range.{all}
 use Rattle.kit.proofs.Listings.{listed_at}
-use Rattle.kit.proofs.Loops.{Held, held_more, all_failed, all_over}
+use Rattle.kit.proofs.Loops.{Held, all_failed, all_over}
 use Rattle.vote.specs.Data.{is_ok_vote, is_other, request_at, vote_at}
 use Rattle.table.specs.Blank.{is_blank_request}
 use Rattle.table.specs.Parts.{lasts_of, stamps_of, ballots_of, marks_of, used_sound, request_sound, site_sound, message_sound, parts_sound}

@@ -1,5 +1,5 @@
 -- Blank sites, places and messages, as tests that compute.
-use Rattle.std.specs.Prelude.{ℕ, Bool, true, false, not, ◌&&◌, List, eqb, ℤ, pos, get_or}
+use Rattle.std.specs.Prelude.{ℕ, Bool, not, ◌&&◌, List, eqb, ℤ, pos, get_or}
 use Rattle.kit.specs.Range.{all}
 use Rattle.readings.specs.Readings.{is_zero}
 use Rattle.vote.specs.Data.{is_open, is_unmarked, vote_at}

@@ -1,5 +1,5 @@
 -- "A fresh table has every site up, last t 0 and all else blank"; "A fresh table refused is all zeros, site count 0, and not sound."
-use Rattle.std.specs.Prelude.{ℕ, Bool, true, false, ◌&&◌, cond, leb, ltb, pos, replicate}
+use Rattle.std.specs.Prelude.{ℕ, Bool, false, ◌&&◌, cond, leb, ltb, pos, replicate}
 use Rattle.kit.specs.Lists.{listed}
 use Rattle.vote.specs.Data.{no_vote, blank_request}
 use Rattle.vote.specs.Voters.{no_known, no_row}

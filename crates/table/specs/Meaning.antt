@@ -1,10 +1,10 @@
 -- What soundness means, for every site, place, item and message: the facts from which the proofs about steps start. The proofs show that
 -- a table whose lists have their lengths is sound if and only if these hold.
-use Rattle.std.specs.Prelude.{ℕ, ◌≤◌, ◌<◌, Bool, true, false, List, ◌≡◌, leb, pos, length, get_or}
+use Rattle.std.specs.Prelude.{ℕ, ◌≤◌, ◌<◌, true, false, ◌≡◌, pos, length, get_or}
 use Rattle.majority.specs.Majority.{majority, blocking}
 use Rattle.readings.specs.Readings.{in_range}
 use Rattle.stamps.specs.Stamps.{time_of, issued_form, well_formed}
-use Rattle.vote.specs.Data.{is_ok_vote, is_other, is_unmarked, is_deferred, is_open}
+use Rattle.vote.specs.Data.{is_unmarked, is_deferred, is_open}
 use Rattle.vote.specs.Queue.{queued_at}
 use Rattle.vote.specs.Shape.{ShapedSite}
 use Rattle.vote.specs.Voters.{knows, has_voter, none_known, voters_known}

@@ -1,12 +1,12 @@
 -- How soundness is computed: place by place and site by site, with the sites' own marks and last t's gathered first. A reader of `soundTable`
 -- need not read this: the proofs show that both are the same.
-use Rattle.std.specs.Prelude.{ℕ, ◌-◌, ◌/◌, ◌%◌, Bool, true, false, not, ◌&&◌, ◌||◌, cond, List, [], eqb, leb, ltb, ℤ, get_or}
+use Rattle.std.specs.Prelude.{ℕ, ◌-◌, ◌/◌, ◌%◌, Bool, true, false, not, ◌&&◌, cond, List, [], eqb, leb, ltb, ℤ, get_or}
 use Rattle.kit.specs.Lists.{listed}
 use Rattle.kit.specs.Range.{all, implies, one, number}
 use Rattle.majority.specs.Majority.{majority, blocking}
 use Rattle.readings.specs.Readings.{in_range, is_zero}
 use Rattle.sets.specs.Sets.{set_of}
-use Rattle.stamps.specs.Stamps.{time_of, digit_of, issued_form, well_formed}
+use Rattle.stamps.specs.Stamps.{time_of, digit_of, issued_form}
 use Rattle.vote.specs.Data.{is_ok_vote, is_other, is_unmarked, is_deferred, is_open, vote_at, request_at}
 use Rattle.vote.specs.Queue.{queued_at}
 use Rattle.vote.specs.Voters.{voters_of, voters_for, has_voter, are_among, no_voters, voters_in}

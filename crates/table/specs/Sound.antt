@@ -1,6 +1,6 @@
 -- Document 01: "A table is sound if ..", one definition for each sentence, in its order, and the list of them at the end.
-use Rattle.std.specs.Prelude.{ℕ, Bool, true, false, not, ◌&&◌, ◌||◌, List, eqb, leb, ltb, ℤ, pos, get_or}
-use Rattle.kit.specs.Range.{all, any, one, number, implies}
+use Rattle.std.specs.Prelude.{ℕ, Bool, true, not, ◌&&◌, ◌||◌, List, eqb, leb, ltb, ℤ, pos, get_or}
+use Rattle.kit.specs.Range.{all, one, number, implies}
 use Rattle.majority.specs.Majority.{majority, blocking}
 use Rattle.readings.specs.Readings.{in_range, is_zero}
 use Rattle.sets.specs.Sets.{member, inside, of_items}
@@ -8,7 +8,6 @@ use Rattle.stamps.specs.Stamps.{time_of, issued_form, well_formed}
 use Rattle.vote.specs.Data.{is_ok_vote, is_other, is_unmarked, is_deferred, is_open, vote_at}
 use Rattle.vote.specs.Queue.{queued_at}
 use Rattle.vote.specs.Voters.{knows, has_voter, none_known, voters_known}
-use Rattle.vote.specs.declared.data.Mark.{Mark}
 use Rattle.vote.specs.declared.data.Request.{Request}
 use Rattle.vote.specs.declared.data.Site.{Site}
 use Rattle.vote.specs.declared.data.Verdict.{Verdict}

@@ -1,5 +1,5 @@
 -- Two requests beside each other.
-use Rattle.std.specs.Prelude.{ℕ, Bool, ◌&&◌, ◌||◌, eqb, get_or}
+use Rattle.std.specs.Prelude.{Bool, ◌&&◌, ◌||◌, eqb, get_or}
 use Rattle.kit.specs.Range.{all, implies}
 use Rattle.sets.specs.Sets.{member, meets}
 use Rattle.stamps.specs.Stamps.{higher}

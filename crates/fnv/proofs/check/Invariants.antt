@@ -1,10 +1,8 @@
 -- `fnv::check` meets its contract. The loop's invariant: from the check so far, the bytes left give the check of all.
-use mathlib.Core.Path.{◌≡◌, refl}
+use mathlib.Core.Path.{◌≡◌}
 use Prim.Native.Nat.{◌≤◌, ◌-◌}
-use borrow.Author.Rules.{rules}
 use lib.ListN.{length, drop}
 use Rattle.fnv.specs.Fnv.{fnv_from, fnv_of}
-use Rattle.fnv.proofs.Laws.{turn, end}
 use Rattle.fnv.proofs.check.Given as goal
 
 abbrev pub invariant-loop-i : goal.invariant-loop-i

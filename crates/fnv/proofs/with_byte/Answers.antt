@@ -1,5 +1,4 @@
 -- `fnv::with_byte` meets its contract: the byte is joined first, and the join multiplied.
-use borrow.Author.Rules.{rules}
 use Rattle.fnv.specs.Fnv.{fnv_step}
 use Rattle.fnv.proofs.with_byte.Goals as goal
 

@@ -1,6 +1,5 @@
 -- `fnv::wrapping_mul` meets its contract: the whole product fits 64 bits, and its low 32 are kept.
 use mathlib.Core.Path.{refl}
-use borrow.Author.Rules.{rules}
 use Rattle.fnv.specs.Fnv.{cut_product}
 use Rattle.fnv.proofs.Laws.{product}
 use Rattle.fnv.proofs.wrapping_mul.Goals as goal

@@ -3,7 +3,6 @@ use Prim.Native.Nat.{◌-◌}
 use native.Mathlib.Omega.{arith}
 use mir.Syntax.{w32}
 use mir.Val.{to_z}
-use borrow.Author.Rules.{rules}
 use Rattle.kit.proofs.signed.Goals as goal
 
 pub returns-else-n-lt2147483648 : goal.returns-else-n-lt2147483648

@@ -1,12 +1,12 @@
 -- where the test passed, z is its magnitude; where it failed, the bits turned over are
 use mathlib.Core.Path.{◌≡◌, ap, sym, ◌∙◌}
-use mathlib.Core.Bool.{Bool, true, false}
-use Prim.Native.Nat.{ℕ, ◌-◌}
+use mathlib.Core.Bool.{true, false}
+use Prim.Native.Nat.{◌-◌}
 use native.Mathlib.Omega.{arith}
-use lib.IntN.{ℤ, pos, nat_abs}
+use lib.IntN.{pos}
 use lib.Signed.{mag, le_z}
 use mir.Syntax.{w32}
-use mir.Val.{to_z, of_z, SFits}
+use mir.Val.{to_z, of_z}
 use mir.Facts.{to_z-of_z}
 use Rattle.kit.proofs.Signs.{not_bits, neg_bits, pos_bits, pos_mag}
 use Rattle.kit.proofs.unsigned.Goals as goal

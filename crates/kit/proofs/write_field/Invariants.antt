@@ -1,15 +1,9 @@
 -- `kit::write_field` meets its contract. The invariant: the first k bytes stand in the buffer, and `rest` has the others.
-use mathlib.Core.Path.{◌≡◌, refl, sym, ap, ◌∙◌}
-use Prim.Native.Nat.{ℕ, ◌+◌, ◌-◌, ◌/◌, ◌^◌, ◌≤◌, ◌<◌}
-use native.Mathlib.Nat.{div-one}
-use native.Mathlib.Numerals.{add-one}
-use native.Mathlib.Omega.{arith}
-use borrow.Author.Rules.{rules}
-use borrow.Author.Tests.{leb-true, leb-false, not-true, not-false}
-use lib.ListN.{length, length-set}
-use lib.Seq.{paste, paste-zero}
+use mathlib.Core.Path.{◌≡◌}
+use Prim.Native.Nat.{◌+◌, ◌-◌, ◌/◌, ◌^◌, ◌≤◌}
+use lib.ListN.{length}
+use lib.Seq.{paste}
 use Rattle.kit.specs.Bytes.{bytes_of}
-use Rattle.kit.proofs.Fields.{div_more, write_turn, write_end, write_none, ends_in, ends_out}
 use Rattle.kit.proofs.write_field.Given as goal
 
 abbrev pub invariant-loop-k : goal.invariant-loop-k

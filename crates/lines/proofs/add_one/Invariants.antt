@@ -1,6 +1,5 @@
 -- `lines::add_one` meets its contract. The invariant: what is left to do with the first i digits is all that was to do.
-use borrow.Author.Rules.{rules}
-use Rattle.lines.proofs.Growing.{Growing, growing_start, growing_inside, growing_grew, growing_digits, growing_on, growing_none, growing_over}
+use Rattle.lines.proofs.Growing.{Growing}
 use Rattle.lines.proofs.add_one.Given as goal
 
 abbrev pub invariant-loop-i : goal.invariant-loop-i

@@ -1,6 +1,5 @@
 -- `lines::count_from` meets its contract.
 use Rattle.lines.proofs.Counting.{large_length, large_digits, few_length, few_digits, front_fits, front_length, front_digits}
-use borrow.Author.Rules.{rules}
 use Rattle.lines.proofs.count_from.Goals as goal
 
 pub returns-then-n-ge100000000 : goal.returns-then-n-ge100000000

@@ -1,6 +1,5 @@
 -- `lines::count_on` meets its contract.
 use Rattle.lines.proofs.Counting.{asked_room, stays_digits, stays_length, grows_digits, grows_length, anew_digits, anew_length}
-use borrow.Author.Rules.{rules}
 use Rattle.lines.proofs.count_on.Goals as goal
 
 pub returns-then-not-is_kept : goal.returns-then-not-is_kept

@@ -1,6 +1,5 @@
 -- `lines::magnitude` meets its contract: where the test failed, the bits turned over are one less than the answer.
 use native.Mathlib.Omega.{arith}
-use borrow.Author.Rules.{rules}
 use Rattle.lines.proofs.Signs.{plus_is, minus_is, minus_abs}
 use Rattle.lines.proofs.magnitude.Goals as goal
 

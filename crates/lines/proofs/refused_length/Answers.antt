@@ -1,6 +1,5 @@
 -- `lines::refused_length` meets its contract.
 use native.Mathlib.Omega.{arith}
-use borrow.Author.Rules.{rules}
 use Rattle.lines.proofs.Decimals.{length_le}
 use Rattle.lines.proofs.Refused.{refused_sum}
 use Rattle.lines.proofs.refused_length.Goals as goal

@@ -1,7 +1,6 @@
 -- `lines::write_back` meets its contract: three zeros at once, else three fields, one behind the other.
 use Rattle.lines.proofs.Tails.{zeros_room, zeros_back}
 use Rattle.lines.proofs.Writes.{room_one, room_two, room_three, wrote_three}
-use borrow.Author.Rules.{rules}
 use Rattle.lines.proofs.write_back.Goals as goal
 
 pub write_zeros-requires : goal.write_zeros-requires

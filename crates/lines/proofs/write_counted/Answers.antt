@@ -1,6 +1,5 @@
 -- `lines::write_counted` meets its contract: the first field, and the tail behind it.
 use Rattle.lines.proofs.Counting.{no_room_length, no_room_bytes, first_room, tail_room, over_length, over_bytes}
-use borrow.Author.Rules.{rules}
 use Rattle.lines.proofs.write_counted.Goals as goal
 
 pub returns-then-not-ends_inside : goal.returns-then-not-ends_inside

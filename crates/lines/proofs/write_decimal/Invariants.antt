@@ -1,8 +1,5 @@
 -- `lines::write_decimal` meets its contract. The invariant: the digits of `rest`, which end at i, are left to write.
-use native.Mathlib.Omega.{arith}
-use borrow.Author.Rules.{rules}
-use Rattle.lines.proofs.Decimals.{length_some}
-use Rattle.lines.proofs.Writes.{Left, left_start, left_turn, left_end, one_digit, digit_room}
+use Rattle.lines.proofs.Writes.{Left}
 use Rattle.lines.proofs.write_decimal.Given as goal
 
 abbrev pub invariant-loop-rest : goal.invariant-loop-rest

@@ -1,7 +1,5 @@
 -- `lines::write_eight` meets its contract. The invariant: the first i bytes stand in the buffer.
-use Prim.Native.Nat.{◌-◌}
-use borrow.Author.Rules.{rules}
-use Rattle.kit.proofs.Copies.{Copied, copied_start, copied_more, copied_all}
+use Rattle.kit.proofs.Copies.{copied_start, copied_more, copied_all}
 use Rattle.lines.proofs.write_eight.Goals as goal
 
 pub loop-i-init : goal.loop-i-init

@@ -3,7 +3,6 @@ use Prim.Native.Nat.{◌+◌, ◌≤◌}
 use native.Mathlib.Omega.{arith}
 use lib.ListN.{length}
 use Rattle.lines.proofs.Counting.{made_room, made_place, made_bytes, eight_room, eight_enough, number_room, number_place, eight_bytes}
-use borrow.Author.Rules.{rules}
 use Rattle.lines.proofs.write_first.Goals as goal
 
 pub write_decimal-requires : goal.write_decimal-requires

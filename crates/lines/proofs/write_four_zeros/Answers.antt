@@ -2,7 +2,6 @@
 use native.Mathlib.Omega.{arith}
 use lib.ListN.{length-set}
 use Rattle.lines.proofs.Refused.{four_wrote}
-use borrow.Author.Rules.{rules}
 use Rattle.lines.proofs.write_four_zeros.Goals as goal
 
 pub bounds-out-at-2 : goal.bounds-out-at-2

@@ -1,6 +1,4 @@
 -- `lines::write_number` meets its contract.
-use native.Mathlib.Omega.{arith}
-use borrow.Author.Rules.{rules}
 use Rattle.lines.proofs.Writes.{end_room, field_wrote}
 use Rattle.lines.proofs.write_number.Goals as goal
 

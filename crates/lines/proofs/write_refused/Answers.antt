@@ -1,6 +1,5 @@
 -- `lines::write_refused` meets its contract: two fields, and the zeros behind them.
 use Rattle.lines.proofs.Refused.{refused_answer, refused_bytes, first_inside, second_inside, zeros_inside, done_answer, done_bytes}
-use borrow.Author.Rules.{rules}
 use Rattle.lines.proofs.write_refused.Goals as goal
 
 pub returns-then-not-ends_inside : goal.returns-then-not-ends_inside

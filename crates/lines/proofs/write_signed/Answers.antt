@@ -1,7 +1,6 @@
 -- `lines::write_signed` meets its contract.
 use lib.ListN.{length-set}
 use Rattle.lines.proofs.Writes.{plus_room, plus_wrote, sign_room, minus_room, minus_wrote}
-use borrow.Author.Rules.{rules}
 use Rattle.lines.proofs.write_signed.Goals as goal
 
 pub write_number-requires : goal.write_number-requires

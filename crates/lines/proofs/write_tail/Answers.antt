@@ -2,7 +2,6 @@
 use mathlib.Core.Path.{◌∙◌}
 use lib.ListN.{length-set}
 use Rattle.lines.proofs.Tails.{tail_blank, tail_number, tail_signed, tail_back, tail_wrote}
-use borrow.Author.Rules.{rules}
 use Rattle.lines.proofs.write_tail.Goals as goal
 
 pub bounds-out-at : goal.bounds-out-at

@@ -1,5 +1,4 @@
 -- `majority::to_accept` meets its contract: half the sites and one more.
-use borrow.Author.Rules.{rules}
 use mathlib.Core.Path.{refl}
 use Rattle.majority.specs.Majority.{majority}
 use Rattle.majority.proofs.to_accept.Goals as goal

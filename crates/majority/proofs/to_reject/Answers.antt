@@ -1,5 +1,4 @@
 -- `majority::to_reject` meets its contract: where there are fewer sites than a majority, the difference is 0.
-use borrow.Author.Rules.{rules}
 use native.Mathlib.Omega.{arith}
 use Rattle.majority.specs.Majority.{majority, blocking}
 use Rattle.majority.proofs.to_reject.Goals as goal

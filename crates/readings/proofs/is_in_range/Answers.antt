@@ -1,6 +1,5 @@
 -- `readings::is_in_range` meets its contract.
-use mathlib.Core.Path.{◌≡◌, ap, ◌∙◌}
-use mathlib.Core.Bool.{Bool}
+use mathlib.Core.Path.{ap, ◌∙◌}
 use lib.IntN.{ℤ, pos}
 use lib.Signed.{le_z}
 use mir.Facts.{to_z-of_z}

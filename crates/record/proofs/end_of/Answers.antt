@@ -1,7 +1,6 @@
 -- `record::end_of` meets its contract: cut by its header, cut by its body, or whole.
 use mathlib.Core.Path.{sym}
 use native.Mathlib.Omega.{arith}
-use borrow.Author.Rules.{rules}
 use Rattle.kit.proofs.Fields.{field_lt}
 use Rattle.record.proofs.Frames.{cut_header, cut_body, not_cut}
 use Rattle.record.proofs.Laws.{next_cut, next_whole}

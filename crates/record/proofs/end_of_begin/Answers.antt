@@ -1,7 +1,6 @@
 -- `record::end_of_begin` meets its contract: cut, another code, another length, or a begin.
 use Prim.Native.Nat.{◌≤◌}
 use native.Mathlib.Omega.{arith}
-use borrow.Author.Rules.{rules}
 use lib.ListN.{length}
 use Rattle.record.proofs.Briefs.{end_header, end_inside, end_cut, end_other, end_wrong, end_right}
 use Rattle.record.proofs.end_of_begin.Goals as goal

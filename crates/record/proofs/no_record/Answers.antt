@@ -1,5 +1,4 @@
 -- `record::no_record` meets its contract: where no bytes are left, a record is cut.
-use borrow.Author.Rules.{rules}
 use mathlib.Core.List.{[]}
 use mathlib.Core.Path.{sym, ap, ◌∙◌}
 use native.Mathlib.Omega.{arith}

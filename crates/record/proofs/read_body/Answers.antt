@@ -1,7 +1,5 @@
 -- `record::read_body` meets its contract: each arm of the match answers what its code asks for.
-use mathlib.Core.Logic.{⊎_elim}
 use mathlib.Core.Path.{refl}
-use borrow.Author.Rules.{rules}
 use Rattle.record.proofs.Codes.{asked_begin, asked_tell, asked_place, asked_site, asked_retire, asked_read, asked_none, asked_above, answer_known, answer_unknown}
 use native.Mathlib.Omega.{arith}
 use Rattle.record.proofs.read_body.Goals as goal

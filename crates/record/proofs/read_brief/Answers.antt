@@ -1,7 +1,6 @@
 -- `record::read_brief` meets its contract: cut, or whole.
 use Prim.Native.Nat.{◌≤◌}
 use native.Mathlib.Omega.{arith}
-use borrow.Author.Rules.{rules}
 use lib.ListN.{length}
 use Rattle.record.proofs.Briefs.{end_header, end_inside, brief_cut, brief_whole}
 use Rattle.record.proofs.read_brief.Goals as goal

@@ -1,5 +1,4 @@
 -- `record::read_numbers` meets its contract: no begin, or what stands in the body of one.
-use borrow.Author.Rules.{rules}
 use mathlib.Core.Path.{sym, ap, ◌∙◌}
 use Rattle.record.specs.declared.Step.{Step}
 use Rattle.record.proofs.Briefs.{plain, begin_header, begin_inside, begin_step_lem}

@@ -1,5 +1,4 @@
 -- `record::read_record` meets its contract: the record without its arrays, and these beside it.
-use borrow.Author.Rules.{rules}
 use Rattle.record.proofs.Briefs.{whole_is}
 use Rattle.record.proofs.read_record.Goals as goal
 

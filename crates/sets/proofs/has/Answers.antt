@@ -1,6 +1,5 @@
 -- `sets::has` meets its contract: the digit of an item, and no item above 31 is in a word.
 use mathlib.Core.Path.{refl, sym}
-use borrow.Author.Rules.{rules}
 use Rattle.sets.specs.Sets.{member}
 use Rattle.sets.proofs.Laws.{above}
 use Rattle.sets.proofs.has.Goals as goal

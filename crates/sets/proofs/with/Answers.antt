@@ -1,6 +1,5 @@
 -- `sets::with` meets its contract: one digit is set, and an item above 31 changes nothing.
 use native.Mathlib.Omega.{arith}
-use borrow.Author.Rules.{rules}
 use Rattle.sets.specs.Sets.{with_item}
 use Rattle.sets.proofs.Laws.{with_law, with_none}
 use Rattle.sets.proofs.with.Goals as goal

@@ -1,5 +1,4 @@
 -- `sitefile::check_in` meets its contract: the four bytes before the end.
-use borrow.Author.Rules.{rules}
 use Rattle.sitefile.specs.Frame.{check_in}
 use Rattle.sitefile.proofs.check_in.Goals as goal
 

@@ -1,5 +1,4 @@
 -- `sitefile::count_in` meets its contract: the byte 7 before the end.
-use borrow.Author.Rules.{rules}
 use Rattle.kit.proofs.Fields.{field_byte}
 use Rattle.sitefile.specs.Frame.{count_in}
 use Rattle.sitefile.proofs.count_in.Goals as goal

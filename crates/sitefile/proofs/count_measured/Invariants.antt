@@ -1,8 +1,6 @@
 -- `sitefile::count_measured` meets its contract: n of the items before the i-th were measured.
-use Prim.Native.Nat.{◌-◌, ◌<◌}
-use native.Mathlib.Omega.{arith}
-use borrow.Author.Rules.{rules}
-use Rattle.kit.proofs.Loops.{Counted, counted_fits, counts}
+use Prim.Native.Nat.{◌-◌}
+use Rattle.kit.proofs.Loops.{Counted}
 use Rattle.sitefile.specs.Entries.{measured}
 use Rattle.sitefile.proofs.count_measured.Given as goal
 

@@ -1,5 +1,4 @@
 -- `sitefile::distance_in` meets its contract: the two bytes 6 before the end.
-use borrow.Author.Rules.{rules}
 use Rattle.sitefile.specs.Frame.{distance_in}
 use Rattle.sitefile.proofs.distance_in.Goals as goal
 

@@ -1,9 +1,5 @@
 -- `sitefile::has_wrong_entry` meets its contract: no entry before the k-th was wrong.
-use Prim.Native.Nat.{◌-◌}
-use Rattle.kit.proofs.Loops.{Missed, somes}
-use Rattle.sitefile.specs.Frame.{entry_at}
-use Rattle.sitefile.specs.Entries.{rate_form}
-use Rattle.sitefile.specs.Read.{wrong_entry}
+use Rattle.kit.proofs.Loops.{somes}
 use Rattle.sitefile.proofs.has_wrong_entry.Goals as goal
 
 pub loop-k-init : goal.loop-k-init

@@ -1,6 +1,6 @@
 -- `sitefile::has_wrong_entry` meets its contract: no entry before the k-th was wrong.
 use Prim.Native.Nat.{◌-◌}
-use Rattle.kit.proofs.Loops.{Missed, somes}
+use Rattle.kit.proofs.Loops.{Missed}
 use Rattle.sitefile.specs.Frame.{entry_at}
 use Rattle.sitefile.specs.Entries.{rate_form}
 use Rattle.sitefile.specs.Read.{wrong_entry}

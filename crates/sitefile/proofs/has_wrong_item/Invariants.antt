@@ -1,11 +1,9 @@
 -- `sitefile::has_wrong_item` meets its contract: no item before the i-th was wrong.
 use Prim.Native.Nat.{◌-◌}
-use borrow.Author.Rules.{rules, sfits_of}
 use lib.IntN.{pos}
 use lib.ListN.{get_or}
-use Rattle.kit.proofs.Loops.{Missed, somes}
+use Rattle.kit.proofs.Loops.{Missed}
 use Rattle.sitefile.specs.Write.{wrong_item}
-use Rattle.sitefile.proofs.Writes.{item_asked}
 use Rattle.sitefile.proofs.has_wrong_item.Given as goal
 
 abbrev pub invariant-loop-i : goal.invariant-loop-i

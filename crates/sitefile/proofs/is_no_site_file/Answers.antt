@@ -1,5 +1,4 @@
 -- `sitefile::is_no_site_file` meets its contract: each reason to refuse is a law of `Refusals`.
-use borrow.Author.Rules.{rules}
 use Rattle.sitefile.proofs.Refusals.{no_file_short, no_file_length, no_file_count, no_file_distance, no_file_site, no_file_check, no_file_entries}
 use Rattle.sitefile.proofs.is_no_site_file.Goals as goal
 

@@ -1,5 +1,4 @@
 -- `sitefile::is_not_written` meets its contract.
-use borrow.Author.Rules.{rules}
 use Rattle.sitefile.proofs.Writes.{no_room, no_site_lem, by_items}
 use Rattle.sitefile.proofs.is_not_written.Goals as goal
 

@@ -1,7 +1,6 @@
 -- `sitefile::is_wrong_check` meets its contract: all bytes but the last four are checked.
 use mathlib.Core.Path.{sym}
 use native.Mathlib.Omega.{arith}
-use borrow.Author.Rules.{rules}
 use lib.Seq.{length-take-le}
 use Rattle.sitefile.proofs.Refusals.{check_wrong}
 use Rattle.sitefile.proofs.is_wrong_check.Goals as goal

@@ -1,5 +1,4 @@
 -- `sitefile::is_wrong_entry` meets its contract.
-use borrow.Author.Rules.{rules}
 use Rattle.sitefile.proofs.Refusals.{entry_falls, entry_above, entry_reading}
 use Rattle.sitefile.proofs.is_wrong_entry.Goals as goal
 

@@ -1,5 +1,4 @@
 -- `sitefile::is_wrong_item` meets its contract.
-use borrow.Author.Rules.{rules}
 use Rattle.sitefile.proofs.Writes.{item_blank, item_reading}
 use Rattle.sitefile.proofs.is_wrong_item.Goals as goal
 

@@ -1,5 +1,4 @@
 -- `sitefile::is_wrong_reading` meets its contract.
-use borrow.Author.Rules.{rules}
 use Rattle.sitefile.proofs.Refusals.{wrong_reading_stamp, wrong_reading_value}
 use Rattle.sitefile.proofs.is_wrong_reading.Goals as goal
 

@@ -1,7 +1,6 @@
 -- `sitefile::read_entries` meets its contract: the readings so far are those of the entries before the k-th.
 use Prim.Native.Nat.{◌-◌}
-use borrow.Author.Rules.{rules}
-use Rattle.sitefile.proofs.Stores.{ReadTo, entries-read}
+use Rattle.sitefile.proofs.Stores.{ReadTo}
 use Rattle.sitefile.proofs.read_entries.Given as goal
 
 abbrev pub invariant-loop-k : goal.invariant-loop-k

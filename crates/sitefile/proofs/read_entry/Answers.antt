@@ -1,5 +1,5 @@
 -- `sitefile::read_entry` meets its contract: the three fields of entry k.
-use borrow.Author.Rules.{rules, sfits_of}
+use borrow.Author.Rules.{sfits_of}
 use Rattle.kit.proofs.Fields.{field_byte, field_word}
 use Rattle.sitefile.proofs.Stores.{entry_read}
 use Rattle.sitefile.proofs.read_entry.Goals as goal

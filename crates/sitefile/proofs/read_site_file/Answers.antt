@@ -1,5 +1,4 @@
 -- `sitefile::read_site_file` meets its contract.
-use borrow.Author.Rules.{rules}
 use Rattle.sitefile.proofs.Stores.{file_refused, file_taken}
 use Rattle.sitefile.proofs.read_site_file.Goals as goal
 

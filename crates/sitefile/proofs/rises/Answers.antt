@@ -1,5 +1,4 @@
 -- `sitefile::rises` meets its contract.
-use borrow.Author.Rules.{rules}
 use Rattle.sitefile.proofs.Refusals.{rises_first, rises_next}
 use Rattle.sitefile.proofs.rises.Goals as goal
 

@@ -1,5 +1,4 @@
 -- `sitefile::site_in` meets its contract: the byte 8 before the end.
-use borrow.Author.Rules.{rules}
 use Rattle.kit.proofs.Fields.{field_byte}
 use Rattle.sitefile.specs.Frame.{site_in}
 use Rattle.sitefile.proofs.site_in.Goals as goal

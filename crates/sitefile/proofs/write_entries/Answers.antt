@@ -1,7 +1,6 @@
 -- `sitefile::write_entries` meets its contract: the entries of the items before the i-th stand at the front.
-use Prim.Native.Nat.{◌-◌}
-use borrow.Author.Rules.{rules, sfits_of}
-use Rattle.sitefile.proofs.Writes.{WrittenTo, wrote_none, wrote_room, wrote_more, wrote_all}
+use borrow.Author.Rules.{sfits_of}
+use Rattle.sitefile.proofs.Writes.{wrote_none, wrote_room, wrote_more, wrote_all}
 use Rattle.sitefile.proofs.write_entries.Goals as goal
 
 pub loop-i-init : goal.loop-i-init

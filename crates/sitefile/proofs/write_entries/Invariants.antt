@@ -1,7 +1,6 @@
 -- `sitefile::write_entries` meets its contract: the entries of the items before the i-th stand at the front.
 use Prim.Native.Nat.{◌-◌}
-use borrow.Author.Rules.{rules, sfits_of}
-use Rattle.sitefile.proofs.Writes.{WrittenTo, wrote_none, wrote_room, wrote_more, wrote_all}
+use Rattle.sitefile.proofs.Writes.{WrittenTo}
 use Rattle.sitefile.proofs.write_entries.Given as goal
 
 abbrev pub invariant-loop-i : goal.invariant-loop-i

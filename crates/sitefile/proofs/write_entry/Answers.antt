@@ -1,5 +1,4 @@
 -- `sitefile::write_entry` meets its contract: three fields, one behind the other.
-use borrow.Author.Rules.{rules}
 use Rattle.sitefile.proofs.Writes.{entry_put}
 use Rattle.sitefile.proofs.write_entry.Goals as goal
 

@@ -2,7 +2,6 @@
 -- behind the entries there is room for the trailer
 use Prim.Native.Nat.{◌+◌, ◌≤◌}
 use native.Mathlib.Omega.{arith}
-use borrow.Author.Rules.{rules}
 use lib.ListN.{length}
 use Rattle.sitefile.proofs.Writes.{entries_room, trailer_room, file_put}
 use Rattle.sitefile.proofs.write_file.Goals as goal

@@ -1,5 +1,4 @@
 -- `sitefile::write_item` meets its contract.
-use borrow.Author.Rules.{rules}
 use Rattle.sitefile.proofs.Writes.{item_none, item_room, item_some}
 use Rattle.sitefile.proofs.write_item.Goals as goal
 

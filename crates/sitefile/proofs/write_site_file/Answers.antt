@@ -1,5 +1,4 @@
 -- `sitefile::write_site_file` meets its contract.
-use borrow.Author.Rules.{rules}
 use Rattle.sitefile.proofs.Writes.{has_room, write_refused, write_done}
 use Rattle.sitefile.proofs.write_site_file.Goals as goal
 

@@ -1,7 +1,6 @@
 -- `sitefile::write_trailer` meets its contract: three fields, and behind them the check of all bytes before.
 use mathlib.Core.Path.{sym}
 use native.Mathlib.Omega.{arith}
-use borrow.Author.Rules.{rules}
 use lib.Seq.{length-take-le}
 use Rattle.sitefile.proofs.Writes.{trailer_put}
 use Rattle.sitefile.proofs.write_trailer.Goals as goal

@@ -1,6 +1,5 @@
 -- `stamps::is_issued_form` meets its contract: t too early, t too late, no site's digit, and else the digit decides.
 use native.Mathlib.Omega.{arith}
-use borrow.Author.Rules.{rules}
 use Rattle.stamps.proofs.Laws.{form_early, form_late, form_nobody, form_site}
 use Rattle.stamps.proofs.is_issued_form.Goals as goal
 

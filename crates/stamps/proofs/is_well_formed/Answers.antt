@@ -1,5 +1,4 @@
 -- `stamps::is_well_formed` meets its contract: 0 at once, and else the form of an issued stamp.
-use borrow.Author.Rules.{rules}
 use borrow.Author.Tests.{eq-eqb, ne_eqb}
 use Rattle.stamps.specs.Stamps.{well_formed}
 use Rattle.stamps.proofs.is_well_formed.Goals as goal

@@ -1,6 +1,5 @@
 -- `stamps::issue_stamp` meets its contract: none where t would pass its limit, else the stamp of the next t.
 use mathlib.Core.Path.{sym}
-use borrow.Author.Rules.{rules}
 use Rattle.stamps.proofs.Laws.{issued_given, issued_past}
 use Rattle.stamps.proofs.issue_stamp.Goals as goal
 

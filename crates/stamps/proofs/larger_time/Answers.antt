@@ -1,6 +1,5 @@
 -- `stamps::larger_time` meets its contract.
 use native.Mathlib.Omega.{arith}
-use borrow.Author.Rules.{rules}
 use Rattle.stamps.proofs.larger_time.Goals as goal
 
 pub returns : goal.returns

@@ -2,9 +2,8 @@
 use Prim.Native.Nat.{◌^◌, ◌<◌}
 use native.Mathlib.Omega.{arith}
 use borrow.Author.Rules.{rules}
-use lib.ListN.{get_or}
-use Rattle.stamps.specs.Stamps.{time_of, largest_time}
-use Rattle.stamps.proofs.Tops.{Kept, kept_start, kept_item, kept_less, kept_past, kept_more, kept_over}
+use Rattle.stamps.specs.Stamps.{largest_time}
+use Rattle.stamps.proofs.Tops.{kept_start, kept_item, kept_less, kept_past, kept_more, kept_over}
 use Rattle.stamps.proofs.largest_time.Goals as goal
 use Rattle.stamps.proofs.largest_time.Goals.{Start}
 

@@ -1,10 +1,8 @@
 -- `stamps::largest_time` meets its contract. The loop's invariant: the largest t of the base items that are gone, and it has 61 bits.
 use Prim.Native.Nat.{◌^◌, ◌<◌}
-use native.Mathlib.Omega.{arith}
-use borrow.Author.Rules.{rules}
 use lib.ListN.{get_or}
-use Rattle.stamps.specs.Stamps.{time_of, largest_time}
-use Rattle.stamps.proofs.Tops.{Kept, kept_start, kept_item, kept_less, kept_past, kept_more, kept_over}
+use Rattle.stamps.specs.Stamps.{time_of}
+use Rattle.stamps.proofs.Tops.{Kept}
 use Rattle.stamps.proofs.largest_time.Given as goal
 
 abbrev pub invariant-loop-left : goal.invariant-loop-left

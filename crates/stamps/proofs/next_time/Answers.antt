@@ -1,6 +1,5 @@
 -- `stamps::next_time` meets its contract: the largest of three, and no sum wraps.
 use native.Mathlib.Omega.{arith}
-use borrow.Author.Rules.{rules}
 use Rattle.stamps.specs.Stamps.{next_time}
 use Rattle.stamps.proofs.next_time.Goals as goal
 

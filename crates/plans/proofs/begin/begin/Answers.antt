@@ -5,18 +5,12 @@
 -- what came of issuing
 -- the three ways on
 use Prim.Native.Nat.{◌<◌}
-use Rattle.stamps.specs.Issue.{issue_number}
-use Rattle.stamps.specs.declared.Issue.TheVariants as issue
 use Rattle.plans.proofs.Beginning.{begin_nobody, begin_down, begin_sets, begin_stamps, begin_values, begin_rest, begin_past, begin_full, begin_done, stamp_small}
 use Rattle.plans.proofs.Digits.{digit_high}
-use Rattle.plans.specs.Pieces.{issue_at, begin_number_of}
-use borrow.Author.Rules.{rules, sfits_of}
-use lib.Dec.{eqb}
-use mathlib.Core.Bool.{cond}
-use mathlib.Core.Path.{◌≡◌, sym, ap, ◌∙◌}
+use borrow.Author.Rules.{sfits_of}
+use mathlib.Core.Path.{sym, ap, ◌∙◌}
 use Rattle.clock.specs.declared.Issued.{Issued}
 use Rattle.record.specs.Records.{step_from}
-use Rattle.record.specs.declared.Step.{Step}
 use native.Mathlib.Omega.{arith}
 use Rattle.plans.proofs.begin.begin.Goals as goal
 

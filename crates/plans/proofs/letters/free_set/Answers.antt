@@ -1,19 +1,15 @@
 -- `plans::letters::free_set` meets its contract: after j turns it is the set of the free places below j.
 -- place j is free
 -- a turn's place
-use Prim.Native.Nat.{ℕ, ◌-◌, ◌<◌, ◌≤◌}
-use Rattle.plans.specs.Letters.{is_letter, free_set}
+use Prim.Native.Nat.{◌<◌}
+use Rattle.plans.specs.Letters.{free_set}
 use Rattle.sets.specs.Sets.{set_of}
 use Rattle.sets.proofs.Laws.{made_more, made_lt}
 use borrow.Author.Rules.{rules}
-use lib.ListN.{get_or}
-use mathlib.Core.Bool.{Bool, not}
-use mathlib.Core.List.{List, []}
 use mathlib.Core.Path.{◌≡◌, refl}
 use native.Mathlib.Omega.{arith}
 use Rattle.plans.proofs.letters.free_set.Goals as goal
 use Rattle.plans.proofs.letters.free_set.Goals.{After-free_digit}
-use Rattle.plans.proofs.letters.free_set.Invariants.{isFree}
 
 small : (c : After-free_digit) → c.loop-j.j < 64
 small c = omega arith

@@ -1,6 +1,5 @@
 -- `plans::letters::give_place` meets its contract: a law for each way through it.
 use Rattle.plans.proofs.Posting.{give_out, place_kept, place_fits, place_given}
-use borrow.Author.Rules.{rules}
 use Rattle.plans.proofs.letters.give_place.Goals as goal
 
 pub returns-then-x-gt63 : goal.returns-then-x-gt63

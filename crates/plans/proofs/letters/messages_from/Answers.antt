@@ -1,11 +1,8 @@
 -- `plans::letters::messages_from` meets its contract: each place is put.
-use Prim.Native.Nat.{◌-◌}
-use Rattle.kit.proofs.Turns.{Laid, laid_none, laid_more, laid_all}
-use Rattle.plans.specs.Letters.{letter_from, messages_from}
+use Rattle.kit.proofs.Turns.{laid_none, laid_more, laid_all}
+use Rattle.plans.specs.Letters.{messages_from}
 use Rattle.table.specs.Places.{no_message}
 use borrow.Author.Rules.{rules}
-use lib.ListN.{get_or}
-use mathlib.Core.List.{[]}
 use mathlib.Core.Path.{refl}
 use native.Mathlib.Omega.{arith}
 use Rattle.plans.proofs.letters.messages_from.Goals as goal

@@ -1,13 +1,10 @@
 -- `plans::letters::messages_from` meets its contract: each place is put.
 use Prim.Native.Nat.{◌-◌}
-use Rattle.kit.proofs.Turns.{Laid, laid_none, laid_more, laid_all}
-use Rattle.plans.specs.Letters.{letter_from, messages_from}
+use Rattle.kit.proofs.Turns.{Laid}
+use Rattle.plans.specs.Letters.{letter_from}
 use Rattle.table.specs.Places.{no_message}
-use borrow.Author.Rules.{rules}
 use lib.ListN.{get_or}
 use mathlib.Core.List.{[]}
-use mathlib.Core.Path.{refl}
-use native.Mathlib.Omega.{arith}
 use Rattle.plans.proofs.letters.messages_from.Given as goal
 
 abbrev pub invariant-loop-j : goal.invariant-loop-j

@@ -1,6 +1,5 @@
 -- `plans::letters::post` meets its contract.
 use Rattle.plans.proofs.Posting.{letter_put, told_put}
-use borrow.Author.Rules.{rules}
 use Rattle.plans.proofs.letters.post.Goals as goal
 
 pub returns : goal.returns

@@ -1,6 +1,5 @@
 -- `plans::letters::take_place` meets its contract: a law for each way through it.
 use Rattle.plans.proofs.Posting.{take_out, digit_below, place_taken, place_left}
-use borrow.Author.Rules.{rules}
 use Rattle.plans.proofs.letters.take_place.Goals as goal
 
 pub returns-then-x-gt63 : goal.returns-then-x-gt63

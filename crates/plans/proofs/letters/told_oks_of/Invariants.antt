@@ -1,13 +1,9 @@
 -- `plans::letters::told_oks_of` meets its contract: each place is put.
 use Prim.Native.Nat.{◌-◌}
-use Rattle.kit.proofs.Turns.{Laid, laid_none, laid_more, laid_all}
-use Rattle.plans.specs.Letters.{told_oks_in}
+use Rattle.kit.proofs.Turns.{Laid}
 use Rattle.table.specs.Places.{no_message}
-use borrow.Author.Rules.{rules}
 use lib.ListN.{get_or}
 use mathlib.Core.List.{[]}
-use mathlib.Core.Path.{refl}
-use native.Mathlib.Omega.{arith}
 use Rattle.plans.proofs.letters.told_oks_of.Given as goal
 
 abbrev pub invariant-loop-j : goal.invariant-loop-j

@@ -1,6 +1,5 @@
 -- `plans::letters::voters_told` meets its contract.
 use Rattle.plans.proofs.Sending.{told_open, told_judged}
-use borrow.Author.Rules.{rules}
 use Rattle.plans.proofs.letters.voters_told.Goals as goal
 
 pub returns-then-held_open : goal.returns-then-held_open

@@ -1,6 +1,5 @@
 -- `plans::messages::tell_number` meets its contract: a law for each way through it.
 use Rattle.plans.proofs.Sending.{tell_from, tell_to, tell_down, tell_unknown, tell_wordless, tell_self, tell_full, tell_allowed}
-use borrow.Author.Rules.{rules}
 use Rattle.plans.proofs.messages.tell_number.Goals as goal
 
 pub returns-then-not-is_site : goal.returns-then-not-is_site

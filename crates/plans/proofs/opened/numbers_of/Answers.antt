@@ -1,8 +1,6 @@
 -- `plans::opened::numbers_of` meets its contract: each place is put.
-use Prim.Native.Nat.{◌-◌}
-use Rattle.kit.proofs.Turns.{Laid, laid_none, laid_more, laid_all}
-use Rattle.vote.specs.Data.{vote_at}
-use Rattle.vote.specs.Numbers.{vote_number, numbers_of}
+use Rattle.kit.proofs.Turns.{laid_none, laid_more, laid_all}
+use Rattle.vote.specs.Numbers.{numbers_of}
 use borrow.Author.Rules.{rules}
 use mathlib.Core.Path.{refl}
 use native.Mathlib.Omega.{arith}

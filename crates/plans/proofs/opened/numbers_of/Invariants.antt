@@ -1,11 +1,8 @@
 -- `plans::opened::numbers_of` meets its contract: each place is put.
 use Prim.Native.Nat.{◌-◌}
-use Rattle.kit.proofs.Turns.{Laid, laid_none, laid_more, laid_all}
+use Rattle.kit.proofs.Turns.{Laid}
 use Rattle.vote.specs.Data.{vote_at}
-use Rattle.vote.specs.Numbers.{vote_number, numbers_of}
-use borrow.Author.Rules.{rules}
-use mathlib.Core.Path.{refl}
-use native.Mathlib.Omega.{arith}
+use Rattle.vote.specs.Numbers.{vote_number}
 use Rattle.plans.proofs.opened.numbers_of.Given as goal
 
 abbrev pub invariant-loop-p : goal.invariant-loop-p

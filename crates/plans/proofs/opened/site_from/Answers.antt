@@ -1,5 +1,4 @@
 -- `plans::opened::site_from` meets its contract.
-use borrow.Author.Rules.{rules}
 use Rattle.plans.proofs.opened.site_from.Goals as goal
 
 pub returns : goal.returns

@@ -1,11 +1,8 @@
 -- `plans::opened::sites_from` meets its contract: each place is put.
 use Prim.Native.Nat.{◌-◌}
-use Rattle.kit.proofs.Turns.{Laid, laid_none, laid_more, laid_all}
-use Rattle.plans.specs.Opened.{site_from, sites_from}
+use Rattle.kit.proofs.Turns.{Laid}
+use Rattle.plans.specs.Opened.{site_from}
 use Rattle.table.specs.Places.{no_site}
-use borrow.Author.Rules.{rules}
-use mathlib.Core.Path.{refl}
-use native.Mathlib.Omega.{arith}
 use Rattle.plans.proofs.opened.sites_from.Given as goal
 
 abbrev pub invariant-loop-k : goal.invariant-loop-k

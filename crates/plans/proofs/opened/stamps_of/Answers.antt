@@ -1,10 +1,7 @@
 -- `plans::opened::stamps_of` meets its contract: each place is put.
-use Prim.Native.Nat.{◌-◌}
-use Rattle.kit.proofs.Turns.{Laid, laid_none, laid_more, laid_all}
+use Rattle.kit.proofs.Turns.{laid_none, laid_more, laid_all}
 use Rattle.plans.specs.Opened.{stamps_in}
-use Rattle.table.specs.Places.{no_site}
 use borrow.Author.Rules.{rules}
-use lib.ListN.{get_or}
 use mathlib.Core.List.{[]}
 use mathlib.Core.Path.{refl}
 use native.Mathlib.Omega.{arith}

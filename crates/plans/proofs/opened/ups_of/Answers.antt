@@ -1,11 +1,7 @@
 -- `plans::opened::ups_of` meets its contract: an array filled from the front.
-use Prim.Native.Nat.{◌-◌, ◌≤◌}
-use Rattle.kit.proofs.Listings.{Filled, filled_start, filled_put, filled_end}
+use Rattle.kit.proofs.Listings.{filled_start, filled_put, filled_end}
 use Rattle.plans.specs.Opened.{ups_in}
-use Rattle.table.specs.Places.{no_site}
 use borrow.Author.Rules.{rules}
-use lib.ListN.{get_or}
-use mathlib.Core.Bool.{false}
 use native.Mathlib.Omega.{arith}
 use Rattle.plans.proofs.opened.ups_of.Goals as goal
 

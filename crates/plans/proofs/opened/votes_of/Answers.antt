@@ -1,13 +1,10 @@
 -- `plans::opened::votes_of` meets its contract: each place is put, and nothing is lost.
 -- nothing is lost
-use Prim.Native.Nat.{◌-◌}
 use Rattle.kit.proofs.Listings.{length_mapped}
-use Rattle.kit.proofs.Turns.{Laid, laid_none, laid_more, laid_all}
+use Rattle.kit.proofs.Turns.{laid_none, laid_more, laid_all}
 use Rattle.plans.specs.Opened.{ups_in, lasts_in, stamps_in, values_in, votes_in, queues_in, waitings_in, oks_in, others_in, sites_from}
-use Rattle.table.specs.Places.{no_site}
-use Rattle.vote.specs.Numbers.{numbers_of}
 use borrow.Author.Rules.{rules}
-use lib.ListN.{length, get_or}
+use lib.ListN.{length}
 use mathlib.Core.List.{[]}
 use mathlib.Core.Path.{◌≡◌, refl}
 use native.Mathlib.Omega.{arith}

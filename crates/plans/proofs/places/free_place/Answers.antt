@@ -1,11 +1,6 @@
 -- `plans::places::free_place` meets its contract: a loop that returns the first place.
-use Prim.Native.Nat.{◌-◌}
-use Rattle.kit.proofs.Loops.{Missed, firsts}
+use Rattle.kit.proofs.Loops.{firsts}
 use Rattle.plans.proofs.Found.{free_is}
-use lib.ListN.{get_or}
-use borrow.Author.Rules.{rules}
-use lib.Dec.{eqb}
-use mathlib.Core.Bool.{not}
 use Rattle.plans.proofs.places.free_place.Goals as goal
 
 pub loop-p-init : goal.loop-p-init

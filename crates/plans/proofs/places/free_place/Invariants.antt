@@ -1,9 +1,7 @@
 -- `plans::places::free_place` meets its contract: a loop that returns the first place.
 use Prim.Native.Nat.{◌-◌}
-use Rattle.kit.proofs.Loops.{Missed, firsts}
-use Rattle.plans.proofs.Found.{free_is}
+use Rattle.kit.proofs.Loops.{Missed}
 use lib.ListN.{get_or}
-use borrow.Author.Rules.{rules}
 use lib.Dec.{eqb}
 use mathlib.Core.Bool.{not}
 use Rattle.plans.proofs.places.free_place.Given as goal

@@ -1,10 +1,6 @@
 -- `plans::places::place_with` meets its contract: stamp 0 names none, else a loop that returns the first place.
-use Prim.Native.Nat.{◌-◌}
-use Rattle.kit.proofs.Loops.{Missed, firsts}
+use Rattle.kit.proofs.Loops.{firsts}
 use Rattle.plans.proofs.Found.{place_zero, place_is}
-use lib.ListN.{get_or}
-use borrow.Author.Rules.{rules}
-use lib.Dec.{eqb}
 use Rattle.plans.proofs.places.place_with.Goals as goal
 
 pub returns-then-stamp-eq0 : goal.returns-then-stamp-eq0

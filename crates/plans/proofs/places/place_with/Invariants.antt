@@ -1,9 +1,7 @@
 -- `plans::places::place_with` meets its contract: stamp 0 names none, else a loop that returns the first place.
 use Prim.Native.Nat.{◌-◌}
-use Rattle.kit.proofs.Loops.{Missed, firsts}
-use Rattle.plans.proofs.Found.{place_zero, place_is}
+use Rattle.kit.proofs.Loops.{Missed}
 use lib.ListN.{get_or}
-use borrow.Author.Rules.{rules}
 use lib.Dec.{eqb}
 use Rattle.plans.proofs.places.place_with.Given as goal
 

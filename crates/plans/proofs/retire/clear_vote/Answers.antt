@@ -1,6 +1,5 @@
 -- `plans::retire::clear_vote` meets its contract: a place above 15, and one of the 16.
 use Rattle.plans.proofs.Retiring.{vote_beyond, vote_cleared}
-use borrow.Author.Rules.{rules}
 use Rattle.plans.proofs.retire.clear_vote.Goals as goal
 
 pub returns-then-at-gt15 : goal.returns-then-at-gt15

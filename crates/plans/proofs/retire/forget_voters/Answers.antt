@@ -1,10 +1,6 @@
 -- `plans::retire::forget_voters` meets its contract: after each turn one site more has forgotten.
-use Prim.Native.Nat.{◌-◌}
 use Rattle.plans.proofs.Retiring.{voters_anywhere}
-use Rattle.kit.proofs.Turns.{Turned, turned_none, turned_more, turned_all}
-use Rattle.plans.specs.Changes.{voters_forgotten}
-use borrow.Author.Rules.{rules}
-use mathlib.Core.List.{[]}
+use Rattle.kit.proofs.Turns.{turned_none, turned_more, turned_all}
 use native.Mathlib.Omega.{arith}
 use Rattle.plans.proofs.retire.forget_voters.Goals as goal
 

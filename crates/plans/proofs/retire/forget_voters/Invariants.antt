@@ -1,11 +1,8 @@
 -- `plans::retire::forget_voters` meets its contract: after each turn one site more has forgotten.
 use Prim.Native.Nat.{◌-◌}
-use Rattle.plans.proofs.Retiring.{voters_anywhere}
-use Rattle.kit.proofs.Turns.{Turned, turned_none, turned_more, turned_all}
+use Rattle.kit.proofs.Turns.{Turned}
 use Rattle.plans.specs.Changes.{voters_forgotten}
-use borrow.Author.Rules.{rules}
 use mathlib.Core.List.{[]}
-use native.Mathlib.Omega.{arith}
 use Rattle.plans.proofs.retire.forget_voters.Given as goal
 
 abbrev pub invariant-loop-k : goal.invariant-loop-k

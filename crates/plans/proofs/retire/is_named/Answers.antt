@@ -1,12 +1,5 @@
 -- `plans::retire::is_named` meets its contract: a loop that returns at the first hit computes `any`.
-use Prim.Native.Nat.{◌-◌}
-use Rattle.kit.proofs.Loops.{Missed, somes}
-use Rattle.plans.specs.Letters.{is_letter}
-use lib.Dec.{eqb}
-use lib.ListN.{get_or}
-use mathlib.Core.Bool.{◌&&◌}
-use mathlib.Core.List.{[]}
-use borrow.Author.Rules.{rules}
+use Rattle.kit.proofs.Loops.{somes}
 use Rattle.plans.proofs.retire.is_named.Goals as goal
 
 pub loop-j-init : goal.loop-j-init

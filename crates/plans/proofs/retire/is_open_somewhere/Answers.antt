@@ -1,13 +1,5 @@
 -- `plans::retire::is_open_somewhere` meets its contract: a loop that returns at the first hit computes `any`.
-use Prim.Native.Nat.{◌-◌}
-use Rattle.kit.proofs.Loops.{Missed, somes}
-use Rattle.vote.specs.Data.{is_open, vote_at}
-use Rattle.vote.specs.Numbers.{votes_from}
-use lib.Dec.{ltb}
-use lib.ListN.{get_or}
-use mathlib.Core.Bool.{◌&&◌}
-use mathlib.Core.List.{[]}
-use borrow.Author.Rules.{rules}
+use Rattle.kit.proofs.Loops.{somes}
 use Rattle.plans.proofs.retire.is_open_somewhere.Goals as goal
 
 pub loop-k-init : goal.loop-k-init

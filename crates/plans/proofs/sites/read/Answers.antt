@@ -1,7 +1,7 @@
 -- `plans::sites::read` meets its contract: a law for each way through it.
 use Rattle.plans.proofs.AtSites.{read_3, read_4, read_16, read_0}
 use Rattle.plans.proofs.Digits.{widens}
-use borrow.Author.Rules.{rules, sfits_of}
+use borrow.Author.Rules.{sfits_of}
 use Rattle.plans.proofs.sites.read.Goals as goal
 
 pub returns-then-not-is_site : goal.returns-then-not-is_site

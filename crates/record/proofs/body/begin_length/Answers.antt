@@ -1,5 +1,4 @@
 -- `record::body::begin_length` meets its contract: each set is what it was read as, and counted.
-use borrow.Author.Rules.{rules}
 use Rattle.record.specs.Bodies.{begin_length}
 use Rattle.record.proofs.body.begin_length.Goals as goal
 

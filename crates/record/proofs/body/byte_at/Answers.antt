@@ -1,5 +1,4 @@
 -- `record::body::byte_at` meets its contract: a number of 1 byte fits a byte.
-use borrow.Author.Rules.{rules}
 use Rattle.kit.proofs.Fields.{field_lt}
 use Rattle.record.proofs.body.byte_at.Goals as goal
 

@@ -2,8 +2,7 @@
 -- is what is left.
 use native.Mathlib.Omega.{arith}
 use borrow.Author.Rules.{rules}
-use Rattle.record.specs.Bodies.{stamp_at}
-use Rattle.record.proofs.Items.{Walked, walked_start, walked_room, walked_item, walked_turn, walked_less, walked_end}
+use Rattle.record.proofs.Items.{walked_start, walked_room, walked_item, walked_turn, walked_less, walked_end}
 use Rattle.record.proofs.body.fill_stamps.Goals as goal
 
 pub loop-left-init : goal.loop-left-init

@@ -1,9 +1,7 @@
 -- `record::body::fill_stamps` meets its contract. The invariant: the items that are gone from what is left of the set are read. The measure
 -- is what is left.
-use native.Mathlib.Omega.{arith}
-use borrow.Author.Rules.{rules}
 use Rattle.record.specs.Bodies.{stamp_at}
-use Rattle.record.proofs.Items.{Walked, walked_start, walked_room, walked_item, walked_turn, walked_less, walked_end}
+use Rattle.record.proofs.Items.{Walked}
 use Rattle.record.proofs.body.fill_stamps.Given as goal
 
 abbrev pub invariant-loop-left : goal.invariant-loop-left

@@ -1,5 +1,4 @@
 -- `record::body::read_read` meets its contract: as `read_tell`.
-use borrow.Author.Rules.{rules}
 use Rattle.record.specs.Bodies.{read_step}
 use Rattle.record.specs.Records.{brief_of}
 use Rattle.record.proofs.Codes.{sized_wrong, sized_right}

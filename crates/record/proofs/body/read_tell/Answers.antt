@@ -1,5 +1,4 @@
 -- `record::body::read_tell` meets its contract: of another length, or its fields are what they were read as, and the others blank.
-use borrow.Author.Rules.{rules}
 use Rattle.record.specs.Bodies.{tell_step}
 use Rattle.record.specs.Records.{brief_of}
 use Rattle.record.proofs.Codes.{sized_wrong, sized_right}

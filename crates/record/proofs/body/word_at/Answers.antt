@@ -1,7 +1,6 @@
 -- `record::body::word_at` meets its contract: a number of n bytes is below 256 ^ n, and one of 4 fits a word.
 use Prim.Native.Nat.{◌^◌, ◌<◌}
 use native.Mathlib.Nat.{lt_of_lt_of_le, pow-le-pow_right}
-use borrow.Author.Rules.{rules}
 use lib.Dec.{lit<}
 use Rattle.kit.proofs.Fields.{field_lt}
 use Rattle.record.proofs.body.word_at.Goals as goal

@@ -1,9 +1,6 @@
 -- `table::blank::are_zero_places` meets its contract: a loop that returns at the first that fails computes `all`.
-use Prim.Native.Nat.{◌-◌}
 use borrow.Author.Rules.{rules}
-use lib.Dec.{eqb}
-use lib.ListN.{get_or}
-use Rattle.kit.proofs.Loops.{Held, alls}
+use Rattle.kit.proofs.Loops.{alls}
 use Rattle.table.specs.Blank.{zeros}
 use Rattle.kit.proofs.Bools.{eqb_means}
 use Rattle.table.proofs.blank.are_zero_places.Goals as goal

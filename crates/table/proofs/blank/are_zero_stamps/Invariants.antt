@@ -1,10 +1,8 @@
 -- `table::blank::are_zero_stamps` meets its contract: a loop that returns at the first that fails computes `all`.
 use Prim.Native.Nat.{◌-◌}
-use borrow.Author.Rules.{rules}
 use lib.Dec.{eqb}
 use lib.ListN.{get_or}
-use Rattle.kit.proofs.Loops.{Held, alls}
-use Rattle.table.specs.Blank.{zeros}
+use Rattle.kit.proofs.Loops.{Held}
 use Rattle.table.proofs.blank.are_zero_stamps.Given as goal
 
 abbrev pub invariant-loop-i : goal.invariant-loop-i

@@ -1,10 +1,6 @@
 -- `table::blank::are_zero_values` meets its contract: a loop that returns at the first that fails computes `all`.
-use Prim.Native.Nat.{◌-◌}
 use borrow.Author.Rules.{rules}
-use lib.IntN.{pos}
-use lib.ListN.{get_or}
-use Rattle.kit.proofs.Loops.{Held, alls}
-use Rattle.readings.specs.Readings.{is_zero}
+use Rattle.kit.proofs.Loops.{alls}
 use Rattle.table.specs.Blank.{zero_values}
 use Rattle.table.proofs.Chains.{zero_means, sized}
 use Rattle.table.proofs.blank.are_zero_values.Goals as goal

@@ -1,8 +1,5 @@
 -- `table::blank::is_holding_nothing_anywhere` meets its contract: a loop that returns at the first that fails computes `all`.
-use Prim.Native.Nat.{◌-◌}
-use borrow.Author.Rules.{rules}
-use Rattle.kit.proofs.Loops.{Held, alls}
-use Rattle.table.specs.Blank.{holds_nothing}
+use Rattle.kit.proofs.Loops.{alls}
 use Rattle.table.proofs.blank.is_holding_nothing_anywhere.Goals as goal
 
 pub loop-p-init : goal.loop-p-init

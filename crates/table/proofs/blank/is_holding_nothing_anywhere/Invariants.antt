@@ -1,7 +1,6 @@
 -- `table::blank::is_holding_nothing_anywhere` meets its contract: a loop that returns at the first that fails computes `all`.
 use Prim.Native.Nat.{◌-◌}
-use borrow.Author.Rules.{rules}
-use Rattle.kit.proofs.Loops.{Held, alls}
+use Rattle.kit.proofs.Loops.{Held}
 use Rattle.table.specs.Blank.{holds_nothing}
 use Rattle.table.proofs.blank.is_holding_nothing_anywhere.Given as goal
 

@@ -1,13 +1,11 @@
 -- `table::fresh::blank_table` meets its contract: the sites are filled from the front.
-use mathlib.Core.Bool.{false}
 use mathlib.Core.Path.{◌≡◌}
 use mathlib.Core.List.{List}
-use Prim.Native.Nat.{ℕ, ◌-◌, ◌≤◌}
+use Prim.Native.Nat.{ℕ}
 use native.Mathlib.Omega.{arith}
-use borrow.Author.Rules.{rules}
 use lib.Dec.{ltb}
 use lib.ListN.{replicate}
-use Rattle.kit.proofs.Listings.{Filled, filled_put, filled_end}
+use Rattle.kit.proofs.Listings.{filled_put, filled_end}
 use Rattle.kit.specs.Lists.{listed}
 use Rattle.vote.specs.Data.{blank_request}
 use Rattle.vote.specs.declared.data.Request.{Request}

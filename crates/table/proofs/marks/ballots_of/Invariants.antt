@@ -1,11 +1,8 @@
 -- `table::marks::ballots_of` meets its contract: an array filled from the front.
 use Prim.Native.Nat.{◌-◌, ◌≤◌}
-use native.Mathlib.Omega.{arith}
-use borrow.Author.Rules.{rules}
 use lib.ListN.{get_or, replicate}
-use Rattle.kit.proofs.Listings.{Filled, filled_start, filled_put, filled_end}
+use Rattle.kit.proofs.Listings.{Filled}
 use Rattle.vote.specs.Data.{no_vote}
-use Rattle.table.specs.Parts.{ballots_of}
 use Rattle.table.specs.Places.{no_site}
 use Rattle.table.proofs.marks.ballots_of.Given as goal
 

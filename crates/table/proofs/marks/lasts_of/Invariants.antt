@@ -1,10 +1,7 @@
 -- `table::marks::lasts_of` meets its contract: an array filled from the front.
 use Prim.Native.Nat.{◌-◌, ◌≤◌}
-use native.Mathlib.Omega.{arith}
-use borrow.Author.Rules.{rules}
 use lib.ListN.{get_or}
-use Rattle.kit.proofs.Listings.{Filled, filled_start, filled_put, filled_end}
-use Rattle.table.specs.Parts.{lasts_of}
+use Rattle.kit.proofs.Listings.{Filled}
 use Rattle.table.specs.Places.{no_site}
 use Rattle.table.proofs.marks.lasts_of.Given as goal
 

@@ -1,15 +1,8 @@
 -- `table::marks::marked_of` meets its contract: after k turns the marks of the first k sites are put in.
-use mathlib.Core.Path.{◌≡◌}
-use mathlib.Core.Bool.{Bool}
-use mathlib.Core.List.{List, []}
-use Prim.Native.Nat.{ℕ, ◌-◌, ◌≤◌}
 use native.Mathlib.Omega.{arith}
 use borrow.Author.Rules.{rules}
-use lib.ListN.{get_or}
-use Rattle.vote.specs.Data.{is_ok_vote, is_other, vote_at}
-use Rattle.vote.specs.declared.data.Mark.{Mark}
-use Rattle.table.specs.declared.marks.Ballot.{Ballot}
-use Rattle.table.proofs.Putting.{Gathered, gathered_none, gathered_site, gathered_long, gathered_all}
+use Rattle.vote.specs.Data.{is_ok_vote, is_other}
+use Rattle.table.proofs.Putting.{gathered_none, gathered_site, gathered_long, gathered_all}
 use Rattle.table.proofs.marks.marked_of.Goals as goal
 
 pub loop-k-init : goal.loop-k-init

@@ -1,10 +1,7 @@
 -- `table::marks::put_oks` meets its contract: after p turns the marks of the first p places are put in.
-use mathlib.Core.Path.{◌≡◌}
-use Prim.Native.Nat.{◌-◌, ◌≤◌}
 use native.Mathlib.Omega.{arith}
 use borrow.Author.Rules.{rules}
-use Rattle.vote.specs.Data.{is_ok_vote, vote_at}
-use Rattle.table.proofs.Putting.{Put, put_none, put_more, marks_put_lem}
+use Rattle.table.proofs.Putting.{put_none, put_more, marks_put_lem}
 use Rattle.table.proofs.marks.put_oks.Goals as goal
 
 pub loop-p-init : goal.loop-p-init

@@ -1,10 +1,7 @@
 -- `table::marks::set_of` meets its contract: after u turns the digits of the first u voters are summed.
 use Prim.Native.Nat.{◌-◌}
-use native.Mathlib.Omega.{arith}
-use borrow.Author.Rules.{rules}
 use Rattle.vote.specs.Voters.{has_voter}
-use Rattle.table.specs.Parts.{row_set}
-use Rattle.table.proofs.RowSets.{Summed, summed_none, summed_more, summed_over, set_fits, weight_fits}
+use Rattle.table.proofs.RowSets.{Summed}
 use Rattle.table.proofs.marks.set_of.Given as goal
 
 abbrev pub invariant-loop-u : goal.invariant-loop-u

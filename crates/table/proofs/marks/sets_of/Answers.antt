@@ -1,10 +1,8 @@
 -- `table::marks::sets_of` meets its contract: an array filled from the front.
-use Prim.Native.Nat.{◌-◌, ◌≤◌}
 use native.Mathlib.Omega.{arith}
 use borrow.Author.Rules.{rules}
-use Rattle.kit.proofs.Listings.{Filled, filled_start, filled_put, filled_end}
-use Rattle.vote.specs.Voters.{voters_of}
-use Rattle.table.specs.Parts.{row_set, row_sets}
+use Rattle.kit.proofs.Listings.{filled_start, filled_put, filled_end}
+use Rattle.table.specs.Parts.{row_sets}
 use Rattle.table.proofs.marks.sets_of.Goals as goal
 
 pub loop-p-init : goal.loop-p-init

@@ -1,10 +1,8 @@
 -- `table::marks::sets_of` meets its contract: an array filled from the front.
 use Prim.Native.Nat.{◌-◌, ◌≤◌}
-use native.Mathlib.Omega.{arith}
-use borrow.Author.Rules.{rules}
-use Rattle.kit.proofs.Listings.{Filled, filled_start, filled_put, filled_end}
+use Rattle.kit.proofs.Listings.{Filled}
 use Rattle.vote.specs.Voters.{voters_of}
-use Rattle.table.specs.Parts.{row_set, row_sets}
+use Rattle.table.specs.Parts.{row_set}
 use Rattle.table.proofs.marks.sets_of.Given as goal
 
 abbrev pub invariant-loop-p : goal.invariant-loop-p

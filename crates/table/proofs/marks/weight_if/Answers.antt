@@ -1,6 +1,5 @@
 -- `table::marks::weight_if` meets its contract: one way or the other.
 use native.Mathlib.Omega.{arith}
-use borrow.Author.Rules.{rules}
 use Rattle.table.proofs.RowSets.{weight_in, weight_out}
 use Rattle.table.proofs.marks.weight_if.Goals as goal
 

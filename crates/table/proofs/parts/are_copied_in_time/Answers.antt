@@ -1,11 +1,6 @@
 -- `table::parts::are_copied_in_time` meets its contract: a loop that returns at the first that fails, and knows that the last one passed.
-use mathlib.Core.Path.{◌≡◌}
-use mathlib.Core.Bool.{true}
-use Prim.Native.Nat.{◌-◌}
-use borrow.Author.Rules.{rules}
-use lib.ListN.{get_or}
-use Rattle.kit.proofs.Loops.{Held, alls}
-use Rattle.table.proofs.Runs.{stamp_right, passes, blank_right}
+use Rattle.kit.proofs.Loops.{alls}
+use Rattle.table.proofs.Runs.{passes, blank_right}
 use Rattle.table.proofs.parts.are_copied_in_time.Goals as goal
 
 pub loop-i-init : goal.loop-i-init

@@ -2,10 +2,9 @@
 use mathlib.Core.Path.{◌≡◌}
 use mathlib.Core.Bool.{true}
 use Prim.Native.Nat.{◌-◌}
-use borrow.Author.Rules.{rules}
 use lib.ListN.{get_or}
-use Rattle.kit.proofs.Loops.{Held, alls}
-use Rattle.table.proofs.Runs.{stamp_right, passes, blank_right}
+use Rattle.kit.proofs.Loops.{Held}
+use Rattle.table.proofs.Runs.{stamp_right}
 use Rattle.table.proofs.parts.are_copied_in_time.Given as goal
 
 abbrev pub invariant-loop-i : goal.invariant-loop-i

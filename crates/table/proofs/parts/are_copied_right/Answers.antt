@@ -1,11 +1,7 @@
 -- `table::parts::are_copied_right` meets its contract: the tests that are made together are `all`.
-use Prim.Native.Nat.{◌-◌}
 use borrow.Author.Rules.{rules}
-use lib.ListN.{get_or}
-use lib.IntN.{pos}
-use Rattle.table.specs.Parts.{value_right}
 use Rattle.table.proofs.Chains.{value_means, sized}
-use Rattle.table.proofs.Runs.{Made, mades}
+use Rattle.table.proofs.Runs.{mades}
 use Rattle.table.proofs.parts.are_copied_right.Goals as goal
 
 pub loop-i-init : goal.loop-i-init

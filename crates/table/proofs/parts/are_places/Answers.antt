@@ -1,9 +1,5 @@
 -- `table::parts::are_places` meets its contract: a loop that returns at the first that fails computes `all`.
-use Prim.Native.Nat.{◌-◌}
-use borrow.Author.Rules.{rules}
-use lib.Dec.{ltb}
-use Rattle.kit.proofs.Loops.{Held, alls}
-use Rattle.vote.specs.Queue.{queued_at}
+use Rattle.kit.proofs.Loops.{alls}
 use Rattle.table.proofs.parts.are_places.Goals as goal
 
 pub loop-i-init : goal.loop-i-init

@@ -1,8 +1,7 @@
 -- `table::parts::are_places` meets its contract: a loop that returns at the first that fails computes `all`.
 use Prim.Native.Nat.{◌-◌}
-use borrow.Author.Rules.{rules}
 use lib.Dec.{ltb}
-use Rattle.kit.proofs.Loops.{Held, alls}
+use Rattle.kit.proofs.Loops.{Held}
 use Rattle.vote.specs.Queue.{queued_at}
 use Rattle.table.proofs.parts.are_places.Given as goal
 

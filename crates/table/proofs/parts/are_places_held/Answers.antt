@@ -1,8 +1,7 @@
 -- `table::parts::are_places_held` meets its contract: a loop that returns at the first that fails computes `all`.
-use Prim.Native.Nat.{◌-◌}
 use borrow.Author.Rules.{rules}
-use Rattle.kit.proofs.Loops.{Held, alls}
-use Rattle.table.proofs.Marked.{held_at, among_place}
+use Rattle.kit.proofs.Loops.{alls}
+use Rattle.table.proofs.Marked.{among_place}
 use Rattle.table.proofs.parts.are_places_held.Goals as goal
 
 pub loop-p-init : goal.loop-p-init

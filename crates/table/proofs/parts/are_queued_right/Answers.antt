@@ -1,11 +1,5 @@
 -- `table::parts::are_queued_right` meets its contract: a loop that returns at the first that fails computes `all`.
-use Prim.Native.Nat.{◌-◌}
-use borrow.Author.Rules.{rules}
-use lib.Dec.{eqb}
-use lib.ListN.{get_or}
-use Rattle.kit.specs.Range.{one}
-use Rattle.kit.proofs.Loops.{Held, alls}
-use Rattle.vote.specs.Data.{is_deferred, vote_at}
+use Rattle.kit.proofs.Loops.{alls}
 use Rattle.table.proofs.parts.are_queued_right.Goals as goal
 
 pub loop-p-init : goal.loop-p-init

@@ -3,7 +3,6 @@ use mathlib.Core.Path.{◌≡◌}
 use mathlib.Core.Bool.{Bool}
 use mathlib.Core.List.{List}
 use Prim.Native.Nat.{ℕ}
-use borrow.Author.Rules.{rules}
 use lib.Dec.{leb}
 use Rattle.majority.specs.Majority.{majority, blocking}
 use Rattle.vote.specs.Voters.{voters_known}

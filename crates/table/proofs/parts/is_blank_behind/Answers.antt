@@ -1,5 +1,4 @@
 -- `table::parts::is_blank_behind` meets its contract.
-use borrow.Author.Rules.{rules}
 use Rattle.table.proofs.Chains.{askings}
 use Rattle.table.proofs.parts.is_blank_behind.Goals as goal
 

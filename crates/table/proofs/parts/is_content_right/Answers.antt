@@ -1,5 +1,4 @@
 -- `table::parts::is_content_right` meets its contract: one test after the other.
-use borrow.Author.Rules.{rules}
 use Rattle.kit.proofs.Bools.{refusals}
 use Rattle.table.proofs.RowSets.{carried}
 use Rattle.table.proofs.parts.is_content_right.Goals as goal

@@ -1,5 +1,4 @@
 -- `table::parts::is_copy_sound` meets its contract: the stamps, and then the values beside them.
-use borrow.Author.Rules.{rules}
 use Rattle.kit.proofs.Bools.{refusals}
 use Rattle.table.proofs.parts.is_copy_sound.Goals as goal
 

@@ -1,5 +1,4 @@
 -- `table::parts::is_nothing_held` meets its contract: one test after the other.
-use borrow.Author.Rules.{rules}
 use Rattle.kit.proofs.Bools.{refusals}
 use Rattle.table.proofs.Marked.{nobody_means}
 use Rattle.table.proofs.parts.is_nothing_held.Goals as goal

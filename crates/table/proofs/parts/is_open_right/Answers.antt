@@ -1,5 +1,4 @@
 -- `table::parts::is_open_right` meets its contract: one test after the other.
-use borrow.Author.Rules.{rules}
 use Rattle.table.proofs.Chains.{counted, asked, unasked}
 use Rattle.table.proofs.parts.is_open_right.Goals as goal
 

@@ -1,5 +1,4 @@
 -- `table::parts::is_place_held` meets its contract: one test after the other.
-use borrow.Author.Rules.{rules}
 use Rattle.kit.proofs.Bools.{refusals}
 use Rattle.table.proofs.Chains.{askings}
 use Rattle.table.proofs.parts.is_place_held.Goals as goal

@@ -1,9 +1,8 @@
 -- `table::parts::is_queue_end_blank` meets its contract: a loop that returns at the first that fails computes `all`.
 use Prim.Native.Nat.{◌-◌}
-use borrow.Author.Rules.{rules}
 use lib.Dec.{eqb, leb}
 use Rattle.kit.specs.Range.{implies}
-use Rattle.kit.proofs.Loops.{Held, alls}
+use Rattle.kit.proofs.Loops.{Held}
 use Rattle.vote.specs.Queue.{queued_at}
 use Rattle.table.proofs.parts.is_queue_end_blank.Given as goal
 

@@ -4,7 +4,6 @@ use mathlib.Core.Bool.{Bool, true, false, not}
 use mathlib.Core.List.{List}
 use Prim.Native.Nat.{ℕ, ◌<◌, ◌≤◌}
 use borrow.Author.Tests.{lt-leb, le-leb, not-true, not-false}
-use borrow.Author.Rules.{rules}
 use lib.Dec.{eqb, ltb}
 use lib.ListN.{get_or}
 use Rattle.kit.specs.Lists.{listed}

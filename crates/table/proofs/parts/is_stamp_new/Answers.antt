@@ -1,10 +1,6 @@
 -- `table::parts::is_stamp_new` meets its contract: a loop that returns at the first that fails computes `all`.
-use mathlib.Core.Bool.{not}
-use Prim.Native.Nat.{◌-◌}
 use borrow.Author.Rules.{rules}
-use lib.Dec.{eqb}
-use lib.ListN.{get_or}
-use Rattle.kit.proofs.Loops.{Held, alls}
+use Rattle.kit.proofs.Loops.{alls}
 use Rattle.table.specs.Parts.{stamp_new}
 use Rattle.table.proofs.parts.is_stamp_new.Goals as goal
 

@@ -5,7 +5,6 @@ use mathlib.Core.List.{List}
 use Prim.Native.Nat.{ℕ, ◌<◌, ◌≤◌}
 use native.Mathlib.Omega.{arith}
 use borrow.Author.Tests.{lt-ltb, le-ltb}
-use borrow.Author.Rules.{rules}
 use lib.Dec.{eqb, ltb}
 use lib.ListN.{get_or}
 use Rattle.table.proofs.parts.is_used_place.Goals as goal

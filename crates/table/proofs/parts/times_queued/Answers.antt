@@ -1,9 +1,6 @@
 -- `table::parts::times_queued` meets its contract: a loop that counts each place where it meets it.
-use mathlib.Core.Logic.{⊎_elim}
-use Prim.Native.Nat.{◌-◌, ◌≤◌}
 use native.Mathlib.Omega.{arith}
-use borrow.Author.Rules.{rules}
-use Rattle.table.proofs.Marked.{Tallied, tallied_none, tallied_few, tallied_more, tallied_skip, tallied_over}
+use Rattle.table.proofs.Marked.{tallied_none, tallied_few, tallied_more, tallied_skip, tallied_over}
 use Rattle.table.proofs.parts.times_queued.Goals as goal
 use Rattle.table.proofs.parts.times_queued.Goals.{then-p-lt16, else-p-lt16}
 

@@ -1,17 +1,12 @@
 -- `table::requests::are_base_stamps_allowed` meets its contract: a loop over the items of the base set that returns at the first that fails.
 -- the base stamp of item i is well formed
-use mathlib.Core.Bool.{Bool}
-use mathlib.Core.List.{List}
-use Prim.Native.Nat.{ℕ, ◌^◌, ◌<◌}
+use Prim.Native.Nat.{◌^◌, ◌<◌}
 use native.Mathlib.Omega.{arith}
 use borrow.Author.Rules.{rules}
-use lib.ListN.{get_or}
-use Rattle.stamps.specs.Stamps.{well_formed}
 use Rattle.table.specs.Sound.{base_stamps_allowed}
-use Rattle.table.proofs.Runs.{Passed, passed_start, passed_item, passed_less, passed_past, passed_failed, passed_more, passed_over}
+use Rattle.table.proofs.Runs.{passed_start, passed_item, passed_less, passed_past, passed_failed, passed_more, passed_over}
 use Rattle.table.proofs.requests.are_base_stamps_allowed.Goals as goal
 use Rattle.table.proofs.requests.are_base_stamps_allowed.Goals.{Start}
-use Rattle.table.proofs.requests.are_base_stamps_allowed.Invariants.{formed}
 
 small : (c : Start) → c.args.base < 2 ^ 32
 small c = omega arith

@@ -2,13 +2,10 @@
 -- the base stamp of item i is well formed
 use mathlib.Core.Bool.{Bool}
 use mathlib.Core.List.{List}
-use Prim.Native.Nat.{ℕ, ◌^◌, ◌<◌}
-use native.Mathlib.Omega.{arith}
-use borrow.Author.Rules.{rules}
+use Prim.Native.Nat.{ℕ}
 use lib.ListN.{get_or}
 use Rattle.stamps.specs.Stamps.{well_formed}
-use Rattle.table.specs.Sound.{base_stamps_allowed}
-use Rattle.table.proofs.Runs.{Passed, passed_start, passed_item, passed_less, passed_past, passed_failed, passed_more, passed_over}
+use Rattle.table.proofs.Runs.{Passed}
 use Rattle.table.proofs.requests.are_base_stamps_allowed.Given as goal
 
 abbrev pub formed : ℕ → List ℕ → ℕ → Bool

@@ -1,19 +1,13 @@
 -- `table::requests::are_values_allowed` meets its contract: a loop over the items of the update set that returns at the first that fails.
 -- the value of item i is in range
-use mathlib.Core.Bool.{Bool}
-use mathlib.Core.List.{List}
-use Prim.Native.Nat.{ℕ, ◌^◌, ◌<◌}
+use Prim.Native.Nat.{◌^◌, ◌<◌}
 use native.Mathlib.Omega.{arith}
 use borrow.Author.Rules.{rules}
-use lib.IntN.{ℤ, pos}
-use lib.ListN.{get_or}
-use Rattle.readings.specs.Readings.{in_range}
 use Rattle.table.specs.Sound.{values_allowed}
 use Rattle.table.proofs.Chains.{range_means, sized}
-use Rattle.table.proofs.Runs.{Passed, passed_start, passed_item, passed_less, passed_past, passed_failed, passed_more, passed_over}
+use Rattle.table.proofs.Runs.{passed_start, passed_item, passed_less, passed_past, passed_failed, passed_more, passed_over}
 use Rattle.table.proofs.requests.are_values_allowed.Goals as goal
 use Rattle.table.proofs.requests.are_values_allowed.Goals.{Start}
-use Rattle.table.proofs.requests.are_values_allowed.Invariants.{ranged}
 
 small : (c : Start) → c.args.update < 2 ^ 32
 small c = omega arith

@@ -2,15 +2,11 @@
 -- the value of item i is in range
 use mathlib.Core.Bool.{Bool}
 use mathlib.Core.List.{List}
-use Prim.Native.Nat.{ℕ, ◌^◌, ◌<◌}
-use native.Mathlib.Omega.{arith}
-use borrow.Author.Rules.{rules}
+use Prim.Native.Nat.{ℕ}
 use lib.IntN.{ℤ, pos}
 use lib.ListN.{get_or}
 use Rattle.readings.specs.Readings.{in_range}
-use Rattle.table.specs.Sound.{values_allowed}
-use Rattle.table.proofs.Chains.{range_means, sized}
-use Rattle.table.proofs.Runs.{Passed, passed_start, passed_item, passed_less, passed_past, passed_failed, passed_more, passed_over}
+use Rattle.table.proofs.Runs.{Passed}
 use Rattle.table.proofs.requests.are_values_allowed.Given as goal
 
 abbrev pub ranged : List ℤ → ℕ → Bool

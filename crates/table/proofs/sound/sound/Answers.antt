@@ -1,11 +1,9 @@
 -- `table::sound::sound` meets its contract: three loops that return at the first that fails.
-use mathlib.Core.Logic.{⊎_elim}
-use Prim.Native.Nat.{◌-◌}
 use native.Mathlib.Omega.{arith}
 use borrow.Author.Rules.{rules}
-use Rattle.kit.proofs.Loops.{Held, held_none, held_more, alls}
+use Rattle.kit.proofs.Loops.{held_more, alls}
 use Rattle.table.proofs.BlankSites.{unused_site, used_site}
-use Rattle.table.proofs.Whole.{request_right, site_right, message_right, free_place_lem, used_place, no_count, request_wrong, site_wrong, message_wrong, all_right}
+use Rattle.table.proofs.Whole.{free_place_lem, used_place, no_count, request_wrong, site_wrong, message_wrong, all_right}
 use Rattle.table.proofs.sound.sound.Goals as goal
 use Rattle.table.proofs.sound.sound.Goals.{then-stamps-p-eq0+else-not-is_blank_request, else-stamps-p-eq0+else-not-is_request_sound, then-index-k+else-not-is_blank_site, else-index-k+else-not-is_site_sound}
 

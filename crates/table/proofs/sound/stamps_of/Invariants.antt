@@ -1,10 +1,7 @@
 -- `table::sound::stamps_of` meets its contract: an array filled from the front.
 use Prim.Native.Nat.{◌-◌, ◌≤◌}
-use native.Mathlib.Omega.{arith}
-use borrow.Author.Rules.{rules}
-use Rattle.kit.proofs.Listings.{Filled, filled_start, filled_put, filled_end}
+use Rattle.kit.proofs.Listings.{Filled}
 use Rattle.vote.specs.Data.{request_at}
-use Rattle.table.specs.Parts.{stamps_of}
 use Rattle.table.proofs.sound.stamps_of.Given as goal
 
 abbrev pub invariant-loop-p : goal.invariant-loop-p

@@ -1,5 +1,4 @@
 -- `vote::consider::is_above` meets its contract: one test after the other.
-use borrow.Author.Rules.{rules}
 use Rattle.kit.proofs.Bools.{tests}
 use Rattle.vote.proofs.consider.is_above.Goals as goal
 

@@ -1,19 +1,12 @@
 -- `vote::consider::is_blocked` meets its contract: a loop over the pending that returns at the first hit computes `any`.
 -- the request at place j conflicts with q
 -- the pending are among the 16 places
-use mathlib.Core.Bool.{Bool}
-use mathlib.Core.List.{List}
-use Prim.Native.Nat.{ℕ, ◌^◌, ◌<◌}
+use Prim.Native.Nat.{◌^◌, ◌<◌}
 use native.Mathlib.Omega.{arith}
-use borrow.Author.Rules.{rules}
-use Rattle.sets.proofs.Lowest.{Sought, sought_start, sought_item, sought_below, sought_less, sought_more, sought_found, sought_over}
-use Rattle.vote.specs.Data.{head_at, heads_from}
-use Rattle.vote.specs.Requests.{conflicts}
-use Rattle.vote.specs.declared.data.Head.{Head}
+use Rattle.sets.proofs.Lowest.{sought_start, sought_item, sought_below, sought_less, sought_more, sought_found, sought_over}
 use Rattle.vote.proofs.Considering.{conflict_means, pending_lt, blocked_from}
 use Rattle.vote.proofs.consider.is_blocked.Goals as goal
 use Rattle.vote.proofs.consider.is_blocked.Goals.{After-pending_in-left}
-use Rattle.vote.proofs.consider.is_blocked.Invariants.{stands}
 
 few : (c : After-pending_in-left) → c.pending_in-left.result < 2 ^ 16
 few c = pending_lt _ c.pending_in-left.ensures

@@ -3,14 +3,11 @@
 -- the pending are among the 16 places
 use mathlib.Core.Bool.{Bool}
 use mathlib.Core.List.{List}
-use Prim.Native.Nat.{ℕ, ◌^◌, ◌<◌}
-use native.Mathlib.Omega.{arith}
-use borrow.Author.Rules.{rules}
-use Rattle.sets.proofs.Lowest.{Sought, sought_start, sought_item, sought_below, sought_less, sought_more, sought_found, sought_over}
+use Prim.Native.Nat.{ℕ}
+use Rattle.sets.proofs.Lowest.{Sought}
 use Rattle.vote.specs.Data.{head_at, heads_from}
 use Rattle.vote.specs.Requests.{conflicts}
 use Rattle.vote.specs.declared.data.Head.{Head}
-use Rattle.vote.proofs.Considering.{conflict_means, pending_lt, blocked_from}
 use Rattle.vote.proofs.consider.is_blocked.Given as goal
 
 abbrev pub stands : Head → List Head → ℕ → Bool

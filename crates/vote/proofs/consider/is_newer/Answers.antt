@@ -1,18 +1,13 @@
 -- `vote::consider::is_newer` meets its contract: a loop over the items of the base set that returns at the first hit computes `any`.
 -- the copy of item i is the newer
-use mathlib.Core.Bool.{Bool}
-use mathlib.Core.List.{List}
-use Prim.Native.Nat.{ℕ, ◌^◌, ◌<◌}
+use Prim.Native.Nat.{◌^◌, ◌<◌}
 use native.Mathlib.Omega.{arith}
 use borrow.Author.Rules.{rules}
 use borrow.Author.Tests.{lt-ltb, le-ltb}
-use lib.Dec.{ltb}
-use lib.ListN.{get_or}
-use Rattle.sets.proofs.Lowest.{Sought, sought_start, sought_item, sought_less, sought_more, sought_found, sought_past, sought_over}
+use Rattle.sets.proofs.Lowest.{sought_start, sought_item, sought_less, sought_more, sought_found, sought_past, sought_over}
 use Rattle.vote.specs.Consider.{newer_copy}
 use Rattle.vote.proofs.consider.is_newer.Goals as goal
 use Rattle.vote.proofs.consider.is_newer.Goals.{Start}
-use Rattle.vote.proofs.consider.is_newer.Invariants.{newer}
 
 small : (c : Start) → c.args.base < 2 ^ 32
 small c = omega arith

@@ -2,14 +2,10 @@
 -- the copy of item i is the newer
 use mathlib.Core.Bool.{Bool}
 use mathlib.Core.List.{List}
-use Prim.Native.Nat.{ℕ, ◌^◌, ◌<◌}
-use native.Mathlib.Omega.{arith}
-use borrow.Author.Rules.{rules}
-use borrow.Author.Tests.{lt-ltb, le-ltb}
+use Prim.Native.Nat.{ℕ}
 use lib.Dec.{ltb}
 use lib.ListN.{get_or}
-use Rattle.sets.proofs.Lowest.{Sought, sought_start, sought_item, sought_less, sought_more, sought_found, sought_past, sought_over}
-use Rattle.vote.specs.Consider.{newer_copy}
+use Rattle.sets.proofs.Lowest.{Sought}
 use Rattle.vote.proofs.consider.is_newer.Given as goal
 
 abbrev pub newer : List ℕ → List ℕ → ℕ → Bool

@@ -1,10 +1,8 @@
 -- `vote::consider::pending_in` meets its contract: after j turns it is the set of the pending below place j.
 -- the request at place j is pending
 -- a turn's place, and what it counts
-use mathlib.Core.Bool.{Bool}
-use mathlib.Core.List.{List}
 use mathlib.Core.Path.{◌≡◌, refl, sym, ap, ◌∙◌}
-use Prim.Native.Nat.{ℕ, ◌-◌, ◌≤◌, ◌<◌}
+use Prim.Native.Nat.{◌<◌}
 use native.Mathlib.Omega.{arith}
 use borrow.Author.Rules.{rules}
 use Rattle.kit.specs.Range.{one}
@@ -12,8 +10,7 @@ use Rattle.sets.specs.Sets.{set_of}
 use Rattle.sets.proofs.Laws.{made_more, made_lt}
 use Rattle.vote.specs.Consider.{pending_set}
 use Rattle.vote.specs.Numbers.{votes_from}
-use Rattle.vote.specs.Data.{is_pending, vote_at}
-use Rattle.vote.specs.declared.data.Vote.{Vote}
+use Rattle.vote.specs.Data.{is_pending}
 use Rattle.vote.proofs.VoteNumbers.{votes_at}
 use Rattle.vote.proofs.consider.pending_in.Goals as goal
 use Rattle.vote.proofs.consider.pending_in.Goals.{After-one_if}

@@ -3,18 +3,12 @@
 -- a turn's place, and what it counts
 use mathlib.Core.Bool.{Bool}
 use mathlib.Core.List.{List}
-use mathlib.Core.Path.{◌≡◌, refl, sym, ap, ◌∙◌}
-use Prim.Native.Nat.{ℕ, ◌-◌, ◌≤◌, ◌<◌}
-use native.Mathlib.Omega.{arith}
-use borrow.Author.Rules.{rules}
-use Rattle.kit.specs.Range.{one}
+use mathlib.Core.Path.{◌≡◌}
+use Prim.Native.Nat.{ℕ, ◌-◌, ◌≤◌}
 use Rattle.sets.specs.Sets.{set_of}
-use Rattle.sets.proofs.Laws.{made_more, made_lt}
-use Rattle.vote.specs.Consider.{pending_set}
 use Rattle.vote.specs.Numbers.{votes_from}
 use Rattle.vote.specs.Data.{is_pending, vote_at}
 use Rattle.vote.specs.declared.data.Vote.{Vote}
-use Rattle.vote.proofs.VoteNumbers.{votes_at}
 use Rattle.vote.proofs.consider.pending_in.Given as goal
 
 abbrev pub waits : List Vote → ℕ → Bool

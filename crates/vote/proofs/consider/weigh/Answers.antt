@@ -2,7 +2,6 @@
 use mathlib.Core.Path.{◌≡◌}
 use mathlib.Core.Bool.{Bool, true, false, not}
 use mathlib.Core.List.{List}
-use borrow.Author.Rules.{rules}
 use borrow.Author.Tests.{not-true, not-false}
 use Rattle.vote.specs.Consider.{blocked, blocked_above, weighed}
 use Rattle.vote.specs.declared.consider.Outcome.TheVariants as outcome

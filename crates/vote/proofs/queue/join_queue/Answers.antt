@@ -1,5 +1,4 @@
 -- `vote::queue::join_queue` meets its contract: a full queue, and one with room.
-use borrow.Author.Rules.{rules}
 use native.Mathlib.Omega.{arith}
 use Rattle.vote.proofs.Queues.{joins_full, joins_end}
 use Rattle.vote.proofs.queue.join_queue.Goals as goal

@@ -1,11 +1,10 @@
 -- `vote::queue::move_up` meets its contract: what is left to do at j gives the queue without its place i.
-use mathlib.Core.Path.{◌≡◌, refl, ◌∙◌}
-use Prim.Native.Nat.{suc, ◌-◌, ◌<◌}
+use mathlib.Core.Path.{refl, ◌∙◌}
+use Prim.Native.Nat.{suc, ◌<◌}
 use native.Mathlib.Numerals.{add-one}
 use native.Mathlib.Omega.{arith}
 use borrow.Author.Rules.{rules}
 use lib.ListN.{length, length-set}
-use Rattle.kit.specs.Lists.{without}
 use Rattle.kit.proofs.Queues.{without_turn, without_last, without_none}
 use Rattle.vote.proofs.queue.move_up.Goals as goal
 

@@ -1,10 +1,8 @@
 -- `vote::queue::place_in_queue` meets its contract: a loop that returns the first place.
-use Prim.Native.Nat.{◌-◌}
-use lib.Dec.{eqb}
 use borrow.Author.Rules.{rules}
 use Rattle.kit.proofs.Bools.{eqb_means}
-use Rattle.kit.proofs.Loops.{Missed, firsts}
-use Rattle.vote.specs.Queue.{queued_at, place_in_queue}
+use Rattle.kit.proofs.Loops.{firsts}
+use Rattle.vote.specs.Queue.{place_in_queue}
 use Rattle.vote.proofs.queue.place_in_queue.Goals as goal
 
 pub index-end-requires : goal.index-end-requires

@@ -1,5 +1,4 @@
 -- `vote::queue::queued_at` meets its contract: a place behind the end, and one in the queue.
-use borrow.Author.Rules.{rules}
 use Rattle.vote.proofs.Queues.{queued_behind}
 use Rattle.vote.proofs.queue.queued_at.Goals as goal
 

@@ -1,5 +1,4 @@
 -- `vote::queue::release` meets its contract: a request that stands in the queue, and one that does not.
-use borrow.Author.Rules.{rules}
 use Rattle.vote.proofs.NoteRows.{releases_queue, releases_count, keeps_queue, keeps_count}
 use Rattle.vote.proofs.queue.release.Goals as goal
 

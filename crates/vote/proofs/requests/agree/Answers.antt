@@ -1,5 +1,4 @@
 -- `vote::requests::agree` meets its contract: each way through its tests.
-use borrow.Author.Rules.{rules}
 use Rattle.vote.proofs.requests.agree.Goals as goal
 
 pub returns-then-in_b : goal.returns-then-in_b

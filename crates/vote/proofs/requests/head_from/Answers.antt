@@ -1,5 +1,4 @@
 -- `vote::requests::head_from` meets its contract: a place above 15, and one of the 16.
-use borrow.Author.Rules.{rules}
 use Rattle.vote.proofs.Heads.{head_out, head_in}
 use Rattle.vote.proofs.requests.head_from.Goals as goal
 

@@ -1,14 +1,8 @@
 -- `vote::requests::is_concurrent` meets its contract: a loop that returns at the first miss computes `all`.
-use Prim.Native.Nat.{◌-◌}
-use mathlib.Core.Bool.{◌&&◌}
-use lib.Dec.{eqb}
-use lib.ListN.{get_or}
-use Rattle.kit.specs.Range.{implies}
 use Rattle.kit.proofs.Bools.{implies_means}
-use Rattle.sets.specs.Sets.{member}
 use Rattle.vote.specs.Requests.{concurrent}
 use borrow.Author.Rules.{rules}
-use Rattle.kit.proofs.Loops.{Held, alls}
+use Rattle.kit.proofs.Loops.{alls}
 use Rattle.vote.proofs.requests.is_concurrent.Goals as goal
 
 pub loop-i-init : goal.loop-i-init

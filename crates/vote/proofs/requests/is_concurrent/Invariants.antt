@@ -4,11 +4,8 @@ use mathlib.Core.Bool.{◌&&◌}
 use lib.Dec.{eqb}
 use lib.ListN.{get_or}
 use Rattle.kit.specs.Range.{implies}
-use Rattle.kit.proofs.Bools.{implies_means}
 use Rattle.sets.specs.Sets.{member}
-use Rattle.vote.specs.Requests.{concurrent}
-use borrow.Author.Rules.{rules}
-use Rattle.kit.proofs.Loops.{Held, alls}
+use Rattle.kit.proofs.Loops.{Held}
 use Rattle.vote.proofs.requests.is_concurrent.Given as goal
 
 abbrev pub invariant-loop-i : goal.invariant-loop-i

@@ -1,5 +1,4 @@
 -- `vote::verdicts::note_verdict` meets its contract: a place behind the end, and one in the row.
-use borrow.Author.Rules.{rules}
 use Rattle.vote.proofs.Marks.{notes_out, notes_in}
 use Rattle.vote.proofs.verdicts.note_verdict.Goals as goal
 

@@ -1,5 +1,4 @@
 -- `vote::verdicts::rule` meets its contract: a deferred request, and another.
-use borrow.Author.Rules.{rules}
 use Rattle.vote.proofs.NoteRows.{rules_row, rules_queue, rules_count, notes_row, notes_queue, notes_count, notes_ruled_lem}
 use Rattle.vote.proofs.verdicts.rule.Goals as goal
 

@@ -1,6 +1,5 @@
 -- `vote::verdicts::verdict_due` meets its contract: each return is a case of `verdictDue`.
 use mathlib.Core.Path.{sym}
-use borrow.Author.Rules.{rules}
 use native.Mathlib.Omega.{arith}
 use Rattle.vote.proofs.VerdictsDue.{due_accepted, due_rejected, due_open}
 use Rattle.vote.proofs.verdicts.verdict_due.Goals as goal

@@ -1,10 +1,6 @@
 -- `vote::voters::are_known_among` meets its contract: a loop that finds whether some voter known in a is not known in b.
-use Prim.Native.Nat.{◌-◌, ◌≤◌}
-use mathlib.Core.Path.{◌≡◌}
 use native.Mathlib.Omega.{arith}
-use borrow.Author.Rules.{rules}
-use Rattle.kit.specs.Range.{any}
-use Rattle.vote.proofs.KnownVoters.{without, strange_none, strange_more, strange_over}
+use Rattle.vote.proofs.KnownVoters.{strange_none, strange_more, strange_over}
 use Rattle.vote.proofs.voters.are_known_among.Goals as goal
 
 pub loop-i-init : goal.loop-i-init

@@ -1,10 +1,7 @@
 -- `vote::voters::clear_voters` meets its contract: after u turns the first u voters are forgotten.
 use mathlib.Core.Path.{◌≡◌}
 use Prim.Native.Nat.{◌-◌, ◌≤◌}
-use borrow.Author.Rules.{rules}
-use native.Mathlib.Omega.{arith}
 use Rattle.vote.specs.Voters.{clear_up_to}
-use Rattle.vote.proofs.Rows.{cleared_none, cleared_more, cleared_over, cleared_out}
 use Rattle.vote.proofs.voters.clear_voters.Given as goal
 
 abbrev pub invariant-loop-u : goal.invariant-loop-u

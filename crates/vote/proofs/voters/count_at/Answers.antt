@@ -1,9 +1,6 @@
 -- `vote::voters::count_at` meets its contract: a loop that counts.
-use Prim.Native.Nat.{◌-◌}
 use native.Mathlib.Omega.{arith}
-use borrow.Author.Rules.{rules}
-use Rattle.kit.proofs.Loops.{Counted, counts}
-use Rattle.vote.specs.Voters.{knows}
+use Rattle.kit.proofs.Loops.{counts}
 use Rattle.vote.proofs.KnownVoters.{one_room, known_counted}
 use Rattle.vote.proofs.voters.count_at.Goals as goal
 

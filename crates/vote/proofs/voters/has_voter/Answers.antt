@@ -1,6 +1,5 @@
 -- `vote::voters::has_voter` meets its contract.
 use native.Mathlib.Omega.{arith}
-use borrow.Author.Rules.{rules}
 use Rattle.vote.proofs.Rows.{row_out, row_in}
 use Rattle.vote.proofs.voters.has_voter.Goals as goal
 

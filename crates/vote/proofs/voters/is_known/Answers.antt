@@ -1,6 +1,5 @@
 -- `vote::voters::is_known` meets its contract.
 use native.Mathlib.Omega.{arith}
-use borrow.Author.Rules.{rules}
 use Rattle.vote.proofs.KnownVoters.{unknown_place, unknown_voter, known_at}
 use Rattle.vote.proofs.voters.is_known.Goals as goal
 

@@ -1,8 +1,7 @@
 -- `vote::voters::is_no_voter` meets its contract: a loop that returns false at the first voter.
-use Prim.Native.Nat.{◌-◌}
 use borrow.Author.Rules.{rules}
-use Rattle.kit.proofs.Loops.{Missed, nones}
-use Rattle.vote.specs.Voters.{has_voter, no_voters}
+use Rattle.kit.proofs.Loops.{nones}
+use Rattle.vote.specs.Voters.{no_voters}
 use Rattle.vote.proofs.voters.is_no_voter.Goals as goal
 
 pub loop-u-init : goal.loop-u-init

@@ -1,8 +1,7 @@
 -- `vote::voters::is_no_voter` meets its contract: a loop that returns false at the first voter.
 use Prim.Native.Nat.{◌-◌}
-use borrow.Author.Rules.{rules}
-use Rattle.kit.proofs.Loops.{Missed, nones}
-use Rattle.vote.specs.Voters.{has_voter, no_voters}
+use Rattle.kit.proofs.Loops.{Missed}
+use Rattle.vote.specs.Voters.{has_voter}
 use Rattle.vote.proofs.voters.is_no_voter.Given as goal
 
 abbrev pub invariant-loop-u : goal.invariant-loop-u

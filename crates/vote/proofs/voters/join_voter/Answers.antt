@@ -1,5 +1,4 @@
 -- `vote::voters::join_voter` meets its contract: no such place, no such voter, and the voter's test set.
-use borrow.Author.Rules.{rules}
 use native.Mathlib.Omega.{arith}
 use Rattle.vote.proofs.KnownVoters.{joined_out, joined_nobody, joined_one}
 use Rattle.vote.proofs.voters.join_voter.Goals as goal

@@ -1,10 +1,7 @@
 -- `vote::voters::join_voters` meets its contract: after u turns the first u voters are joined.
 use mathlib.Core.Path.{◌≡◌}
 use Prim.Native.Nat.{◌-◌, ◌≤◌}
-use borrow.Author.Rules.{rules}
-use native.Mathlib.Omega.{arith}
 use Rattle.vote.specs.Voters.{join_up_to}
-use Rattle.vote.proofs.KnownVoters.{joined_none, joined_more, joined_over, joined_out}
 use Rattle.vote.proofs.voters.join_voters.Given as goal
 
 abbrev pub invariant-loop-u : goal.invariant-loop-u

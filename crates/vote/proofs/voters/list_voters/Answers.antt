@@ -1,10 +1,8 @@
 -- `vote::voters::list_voters` meets its contract: the voters of the row are gathered at the front.
-use mathlib.Core.Logic.{⊎_elim}
-use Prim.Native.Nat.{◌-◌}
 use borrow.Author.Rules.{rules}
 use native.Mathlib.Omega.{arith}
-use Rattle.kit.proofs.Gathers.{Gathered, gathered_none, gathered_more, gathered_skip, gathered_count, gathered_list}
-use Rattle.vote.specs.Voters.{has_voter, voter_list, voters_in, voters_listed}
+use Rattle.kit.proofs.Gathers.{gathered_none, gathered_more, gathered_skip, gathered_count, gathered_list}
+use Rattle.vote.specs.Voters.{voter_list, voters_in, voters_listed}
 use Rattle.vote.proofs.voters.list_voters.Goals as goal
 use Rattle.vote.proofs.voters.list_voters.Goals.{then-has_voter, else-has_voter}
 

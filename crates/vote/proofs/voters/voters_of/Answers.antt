@@ -1,11 +1,9 @@
 -- `vote::voters::voters_of` meets its contract: an array filled from the front.
 -- one voter more
-use mathlib.Core.Bool.{false}
-use Prim.Native.Nat.{◌-◌, ◌≤◌}
 use borrow.Author.Rules.{rules}
 use native.Mathlib.Omega.{arith}
-use Rattle.kit.proofs.Listings.{Filled, filled_start, filled_end}
-use Rattle.vote.specs.Voters.{knows, voters_of}
+use Rattle.kit.proofs.Listings.{filled_start, filled_end}
+use Rattle.vote.specs.Voters.{voters_of}
 use Rattle.vote.proofs.KnownVoters.{nobody_known, row_more}
 use Rattle.vote.proofs.voters.voters_of.Goals as goal
 

@@ -2,11 +2,8 @@
 -- one voter more
 use mathlib.Core.Bool.{false}
 use Prim.Native.Nat.{◌-◌, ◌≤◌}
-use borrow.Author.Rules.{rules}
-use native.Mathlib.Omega.{arith}
-use Rattle.kit.proofs.Listings.{Filled, filled_start, filled_end}
-use Rattle.vote.specs.Voters.{knows, voters_of}
-use Rattle.vote.proofs.KnownVoters.{nobody_known, row_more}
+use Rattle.kit.proofs.Listings.{Filled}
+use Rattle.vote.specs.Voters.{knows}
 use Rattle.vote.proofs.voters.voters_of.Given as goal
 
 abbrev pub invariant-loop-u : goal.invariant-loop-u

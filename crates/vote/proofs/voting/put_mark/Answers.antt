@@ -1,5 +1,4 @@
 -- `vote::voting::put_mark` meets its contract: a place behind the end, and one in the row.
-use borrow.Author.Rules.{rules}
 use Rattle.vote.proofs.Marks.{marks_out, marks_in}
 use Rattle.vote.proofs.voting.put_mark.Goals as goal
 
