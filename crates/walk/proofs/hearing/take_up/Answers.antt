@@ -17,7 +17,7 @@ use Rattle.walk.proofs.hearing.take_up.Goals as goal
 use Rattle.walk.proofs.hearing.take_up.Goals.{After-consider_at-o, Start}
 
 abbrev at-start : After-consider_at-o → Start
-at-start c = (goal.at.X c).None
+at-start c = c.before
 
 abbrev requests : After-consider_at-o → List Request
 requests c =
@@ -31,17 +31,17 @@ came
 came c = outcome_is _ _ _ _ _ _ (length_heads _ _ _) c.consider_at-o.ensures
 
 pub returns-then-is_deferral : goal.returns-then-is_deferral
-returns-then-is_deferral c = let a = (at-start (goal.at.returns-then-is_deferral c).After-consider_at-o).args in
-    take_deferred _ _ _ up last _ _ a.votes.now a.queue.now a.waiting _ _ _ (came (goal.at.returns-then-is_deferral c).After-consider_at-o) c.is_deferral.ensures c.defer.new.0 c.if-is_deferral.true c.defer.ensures.notes c.rest.ensures
+returns-then-is_deferral c up last = let a = (at-start (goal.at.returns-then-is_deferral c).After-consider_at-o).args in
+    take_deferred _ _ _ up last _ _ a.votes.now a.queue.now a.waiting _ _ _ (came (goal.at.returns-then-is_deferral c).After-consider_at-o) c.is_deferral.ensures c.defer.new.votes c.if-is_deferral.true c.defer.ensures.notes c.rest.ensures
 
 pub returns-then-is_open : goal.returns-then-is_open
-returns-then-is_open c = let a = (at-start (goal.at.returns-then-is_open c).None).args in
+returns-then-is_open c up last = let a = (at-start (goal.at.returns-then-is_open c).After-consider_at-o).args in
     let k = c.cast_vote in
-    take_open _ _ _ up last _ _ a.votes.now a.queue.now a.waiting a.oks.now a.others.now _ (came (goal.at.returns-then-is_open c).None) c.is_deferral.ensures k.new.0 c.mark_of.ensures k.ensures.1.0 k.ensures.1.1.0
-    k.ensures.1.1.1 c.verdict_due-v.ensures c.is_open.ensures c.if1.false c.if-is_open.true c.rest-then-is_open.ensures
+    take_open _ _ _ up last _ _ a.votes.now a.queue.now a.waiting a.oks.now a.others.now _ (came (goal.at.returns-then-is_open c).After-consider_at-o) c.is_deferral.ensures k.new.votes c.mark_of.ensures k.ensures.said k.ensures.oks
+    k.ensures.others c.verdict_due-v.ensures c.is_open.ensures c.if-is_deferral.false c.if-is_open.true c.rest-then-is_open.ensures
 
 pub returns : goal.returns
-returns c = let a = (at-start (goal.at.returns c).None).args in
+returns c up last = let a = (at-start (goal.at.returns c).After-consider_at-o).args in
     let k = c.cast_vote in
-    take_ruled _ _ _ up last _ _ a.votes.now a.queue.now a.waiting a.oks.now a.others.now _ (came (goal.at.returns c).None) c.is_deferral.ensures k.new.0 c.mark_of.ensures k.ensures.1.0 k.ensures.1.1.0
-    k.ensures.1.1.1 c.verdict_due-v.ensures c.is_open.ensures c.if1.false c.if-is_open.false (c.resolve.ensures up last)
+    take_ruled _ _ _ up last _ _ a.votes.now a.queue.now a.waiting a.oks.now a.others.now _ (came (goal.at.returns c).After-consider_at-o) c.is_deferral.ensures k.new.votes c.mark_of.ensures k.ensures.said k.ensures.oks
+    k.ensures.others c.verdict_due-v.ensures c.is_open.ensures c.if-is_deferral.false c.if-is_open.false (c.resolve.ensures up last)

@@ -13,11 +13,11 @@ use Rattle.walk.proofs.TakenApart.{rows_none, rows_more, rows_over, taken_apart}
 use Rattle.walk.proofs.parts.based_of.Goals as goal
 use Rattle.walk.proofs.parts.based_of.Goals.{Start}
 
-long : (c : Start) → length c.args.t1 ≡ 16
+long : (c : Start) → length c.args.rs ≡ 16
 long c = search (rules, length_mapped)
 
-all_there : (c : Start) → requests_from (heads_from (names_of c.args.t1) (bases_of c.args.t1) (updates_of c.args.t1)) (based_of c.args.t1) (news_of c.args.t1) ≡ c.args.t1
-all_there c = let g = c.well_formed.0 in taken_apart c.args.t1 (long c) (requests_long c.args.t1 g.0 g.1.1 (long c))
+all_there : (c : Start) → requests_from (heads_from (names_of c.args.rs) (bases_of c.args.rs) (updates_of c.args.rs)) (based_of c.args.rs) (news_of c.args.rs) ≡ c.args.rs
+all_there c = let g = c.well_formed.0 in taken_apart c.args.rs (long c) (requests_long c.args.rs g.0 g.1.1 (long c))
 
 pub loop-z-init : goal.loop-z-init
 unfolding based_of
@@ -41,7 +41,7 @@ loop-z-smaller c = search rules
 
 pub loop-z-preserved : goal.loop-z-preserved
 unfolding based_of
-loop-z-preserved c = (omega arith, rows_more 0 _ _ c.loop.invariant.1 c.put_stamps.ensures)
+loop-z-preserved c = (omega arith, rows_more 0 _ _ c.loop-z.invariant.1 c.put_stamps.ensures)
 
 pub returns : goal.returns
 unfolding based_of

@@ -31,7 +31,7 @@ loop-z-smaller c = search rules
 
 pub loop-z-preserved : goal.loop-z-preserved
 unfolding news_of
-loop-z-preserved c = (omega arith, rows_more (pos 0) _ _ c.loop.invariant.1 c.put_values.ensures)
+loop-z-preserved c = (omega arith, rows_more (pos 0) _ _ c.loop-z.invariant.1 c.put_values.ensures)
 
 pub returns : goal.returns
 unfolding news_of

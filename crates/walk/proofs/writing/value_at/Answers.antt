@@ -4,6 +4,7 @@ use borrow.Author.Rules.{rules, sfits_of}
 use native.Mathlib.Omega.{arith}
 use lib.IntN.{pos}
 use mir.Facts.{to_z-of_z}
+use mir.Syntax.{w32}
 use Rattle.walk.proofs.TakenApart.{row_item_lem, row_no_place, row_no_item}
 use Rattle.walk.proofs.writing.value_at.Goals as goal
 
@@ -14,4 +15,4 @@ pub returns-then-i-gt23 : goal.returns-then-i-gt23
 returns-then-i-gt23 c = search row_no_item
 
 pub returns : goal.returns
-returns c = to_z-of_z (sfits_of c.result-1.given) ∙ row_item_lem (pos 0) _ _ c.index-at.ensures (omega arith) (omega arith)
+returns c = to_z-of_z {w = w32} (sfits_of c.result-1.given) ∙ row_item_lem (pos 0) _ _ c.index-at.ensures (omega arith) (omega arith)
