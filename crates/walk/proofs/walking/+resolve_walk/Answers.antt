@@ -2,7 +2,7 @@
 use mathlib.Core.Bool.{not}
 use mathlib.Core.Path.{ap}
 use native.Mathlib.Nat.{le_trans}
-use Rattle.std.proofs.Common.{Bool, ◌≡◌, ℕ, ◌+◌, ◌-◌, ◌*◌, ◌<◌, ◌≤◌, List, arith}
+use Rattle.std.proofs.Common.{Bool, ◌≡◌, ℕ, ◌+◌, ◌<◌, List, arith}
 use Rattle.vote.specs.Data.{heads_from}
 use Rattle.vote.specs.Notes.{Notes, site_of}
 use Rattle.vote.specs.Numbers.{notes_from}
