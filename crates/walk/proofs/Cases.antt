@@ -22,7 +22,7 @@ use Rattle.vote.specs.declared.data.Request.{Request}
 use Rattle.vote.specs.declared.data.Site.{Site}
 use Rattle.vote.specs.declared.data.Verdict.TheVariants as verdict
 use Rattle.vote.specs.declared.data.Vote.{Vote}
-use Rattle.walk.specs.Walking.{Said, vote, rule, looked_over, walk_up_to, walked}
+use Rattle.walk.specs.Walking.{vote, rule, looked_over, walk_up_to, walked}
 
 -- a request of this stamp that changes item 0, which it found with that stamp
 abbrev on_item0 : ℕ → ℕ → Request

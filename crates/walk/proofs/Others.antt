@@ -1,7 +1,7 @@
 -- Nothing changes of a request that is not in the queue: in a walk; and, but for the one request, in all that a site does with a request that
 -- it begins or hears of.
 use Prim.Native.Nat.{ℕ, ◌<◌}
-use mathlib.Core.Bool.{Bool, not, and-false, or-false}
+use mathlib.Core.Bool.{Bool, and-false, or-false}
 use mathlib.Core.List.{List}
 use mathlib.Core.Path.{refl, sym, ◌∙◌}
 use borrow.Author.Tests.{ne_eqb}

@@ -3,7 +3,6 @@ use mathlib.Core.Path.{◌≡◌}
 use mathlib.Core.Bool.{Bool, true, false}
 use mathlib.Core.List.{List, []}
 use Prim.Native.Nat.{ℕ}
-use borrow.Author.Rules.{rules}
 use Rattle.vote.specs.Consider.{newer_copy, older_copy, weighed, considered}
 use Rattle.vote.specs.Data.{head_at, request_of}
 use Rattle.vote.specs.declared.consider.Outcome.{Outcome}

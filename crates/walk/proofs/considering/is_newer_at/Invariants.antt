@@ -1,20 +1,14 @@
 -- `walk::considering::is_newer_at` meets its contract: a loop over the items of the base set that returns at the first hit computes `any`.
--- the copy of item i is the newer
--- no place has a blank row
 use mathlib.Core.Bool.{Bool}
 use mathlib.Core.List.{List}
-use mathlib.Core.Path.{◌≡◌, ap, ◌∙◌}
-use Prim.Native.Nat.{ℕ, ◌^◌, ◌<◌}
-use native.Mathlib.Omega.{arith}
-use borrow.Author.Rules.{rules}
+use Prim.Native.Nat.{ℕ}
 use lib.Dec.{ltb}
-use lib.ListN.{get_or, replicate}
-use Rattle.sets.proofs.Lowest.{Sought, sought_start, sought_item, sought_less, sought_more, sought_found, sought_past, sought_over}
-use Rattle.vote.specs.Consider.{newer_copy}
+use lib.ListN.{get_or}
+use Rattle.sets.proofs.Lowest.{Sought}
 use Rattle.walk.specs.Parts.{row_at}
-use Rattle.walk.proofs.TakenApart.{no_row, stamp_below, stamp_not_below}
 use Rattle.walk.proofs.considering.is_newer_at.Given as goal
 
+-- the copy of item i is the newer
 abbrev pub newer : List ℕ → List ℕ → ℕ → Bool
 newer row held i = ltb (get_or row i 0) (get_or held i 0)
 

@@ -1,22 +1,19 @@
 -- `walk::considering::is_older_at` meets its contract: a loop over the items of the base set that returns at the first hit computes `any`.
--- the copy of item i is the older
--- no place has a blank row
 use mathlib.Core.Bool.{Bool}
 use mathlib.Core.List.{List}
 use mathlib.Core.Path.{◌≡◌, ap, ◌∙◌}
 use Prim.Native.Nat.{ℕ, ◌^◌, ◌<◌}
 use native.Mathlib.Omega.{arith}
 use borrow.Author.Rules.{rules}
-use lib.Dec.{ltb}
-use lib.ListN.{get_or, replicate}
-use Rattle.sets.proofs.Lowest.{Sought, sought_start, sought_item, sought_less, sought_more, sought_found, sought_past, sought_over}
+use lib.ListN.{replicate}
+use Rattle.sets.proofs.Lowest.{sought_start, sought_item, sought_less, sought_more, sought_found, sought_past, sought_over}
 use Rattle.vote.specs.Consider.{older_copy}
 use Rattle.walk.specs.Parts.{row_at}
 use Rattle.walk.proofs.TakenApart.{no_row, stamp_above, stamp_not_above}
 use Rattle.walk.proofs.considering.is_older_at.Goals as goal
 use Rattle.walk.proofs.considering.is_older_at.Goals.{Start}
-use Rattle.walk.proofs.considering.is_older_at.Invariants.{older}
 
+-- no place has a blank row
 blank : (base : ℕ) (based held : List ℕ) {at p : ℕ} {b : Bool} → at ≡ p → 15 < at → b ≡ older_copy base (replicate 24 0) held → b ≡ older_copy base (row_at 0 based p) held
 blank base based held e h f = f ∙ ap (λ (row : List ℕ). older_copy base row held) (no_row 0 based e h)
 

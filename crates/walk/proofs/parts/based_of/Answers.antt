@@ -1,23 +1,22 @@
 -- `walk::parts::based_of` meets its contract: after z turns the rows of the first z requests are put.
--- nothing is lost
 use mathlib.Core.Path.{◌≡◌}
-use Prim.Native.Nat.{◌-◌, ◌≤◌}
 use borrow.Author.Rules.{rules}
 use native.Mathlib.Omega.{arith}
 use lib.ListN.{length}
 use Rattle.kit.proofs.Listings.{length_mapped}
-use Rattle.vote.specs.Data.{request_at, heads_from}
-use Rattle.walk.specs.Parts.{rows_up_to, based_of, news_of, names_of, bases_of, updates_of, requests_from}
+use Rattle.vote.specs.Data.{heads_from}
+use Rattle.walk.specs.Parts.{based_of, news_of, names_of, bases_of, updates_of, requests_from}
 use Rattle.walk.proofs.Elements.{requests_long}
 use Rattle.walk.proofs.TakenApart.{rows_none, rows_more, rows_over, taken_apart}
 use Rattle.walk.proofs.parts.based_of.Goals as goal
 use Rattle.walk.proofs.parts.based_of.Goals.{Start}
 
-long : (c : Start) → length c.args.t1 ≡ 16
+long : (c : Start) → length c.args.rs ≡ 16
 long c = search (rules, length_mapped)
 
-all_there : (c : Start) → requests_from (heads_from (names_of c.args.t1) (bases_of c.args.t1) (updates_of c.args.t1)) (based_of c.args.t1) (news_of c.args.t1) ≡ c.args.t1
-all_there c = let g = c.well_formed.0 in taken_apart c.args.t1 (long c) (requests_long c.args.t1 g.0 g.1.1 (long c))
+-- nothing is lost
+all_there : (c : Start) → requests_from (heads_from (names_of c.args.rs) (bases_of c.args.rs) (updates_of c.args.rs)) (based_of c.args.rs) (news_of c.args.rs) ≡ c.args.rs
+all_there c = let g = c.well_formed.0 in taken_apart c.args.rs (long c) (requests_long c.args.rs g.0 g.1.1 (long c))
 
 pub loop-z-init : goal.loop-z-init
 unfolding based_of
@@ -41,7 +40,7 @@ loop-z-smaller c = search rules
 
 pub loop-z-preserved : goal.loop-z-preserved
 unfolding based_of
-loop-z-preserved c = (omega arith, rows_more 0 _ _ c.loop.invariant.1 c.put_stamps.ensures)
+loop-z-preserved c = (omega arith, rows_more 0 _ _ c.loop-z.invariant.1 c.put_stamps.ensures)
 
 pub returns : goal.returns
 unfolding based_of

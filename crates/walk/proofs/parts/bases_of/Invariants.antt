@@ -1,11 +1,7 @@
 -- `walk::parts::bases_of` meets its contract: an array filled from the front.
-use mathlib.Core.Path.{refl}
 use Prim.Native.Nat.{◌-◌, ◌≤◌}
-use borrow.Author.Rules.{rules}
-use native.Mathlib.Omega.{arith}
-use Rattle.kit.proofs.Listings.{Filled, filled_start, filled_put, filled_end}
+use Rattle.kit.proofs.Listings.{Filled}
 use Rattle.vote.specs.Data.{request_at}
-use Rattle.walk.specs.Parts.{bases_of}
 use Rattle.walk.proofs.parts.bases_of.Given as goal
 
 abbrev pub invariant-loop-z : goal.invariant-loop-z

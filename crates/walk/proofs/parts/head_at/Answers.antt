@@ -1,5 +1,4 @@
 -- `walk::parts::head_at` meets its contract: the place as an index.
-use borrow.Author.Rules.{rules}
 use Rattle.walk.proofs.TakenApart.{head_in}
 use Rattle.walk.proofs.parts.head_at.Goals as goal
 

@@ -1,10 +1,8 @@
 -- `walk::parts::names_of` meets its contract: an array filled from the front.
 use mathlib.Core.Path.{refl}
-use Prim.Native.Nat.{◌-◌, ◌≤◌}
 use borrow.Author.Rules.{rules}
 use native.Mathlib.Omega.{arith}
-use Rattle.kit.proofs.Listings.{Filled, filled_start, filled_put, filled_end}
-use Rattle.vote.specs.Data.{request_at}
+use Rattle.kit.proofs.Listings.{filled_start, filled_put, filled_end}
 use Rattle.walk.specs.Parts.{names_of}
 use Rattle.walk.proofs.parts.names_of.Goals as goal
 

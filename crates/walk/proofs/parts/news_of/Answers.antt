@@ -1,11 +1,8 @@
 -- `walk::parts::news_of` meets its contract: after z turns the rows of the first z requests are put.
-use mathlib.Core.Path.{◌≡◌}
-use Prim.Native.Nat.{◌-◌, ◌≤◌}
 use borrow.Author.Rules.{rules}
 use lib.IntN.{pos}
 use native.Mathlib.Omega.{arith}
-use Rattle.vote.specs.Data.{request_at}
-use Rattle.walk.specs.Parts.{rows_up_to, news_of}
+use Rattle.walk.specs.Parts.{news_of}
 use Rattle.walk.proofs.TakenApart.{rows_none, rows_more, rows_over}
 use Rattle.walk.proofs.parts.news_of.Goals as goal
 
@@ -31,7 +28,7 @@ loop-z-smaller c = search rules
 
 pub loop-z-preserved : goal.loop-z-preserved
 unfolding news_of
-loop-z-preserved c = (omega arith, rows_more (pos 0) _ _ c.loop.invariant.1 c.put_values.ensures)
+loop-z-preserved c = (omega arith, rows_more (pos 0) _ _ c.loop-z.invariant.1 c.put_values.ensures)
 
 pub returns : goal.returns
 unfolding news_of

@@ -1,12 +1,9 @@
 -- `walk::parts::news_of` meets its contract: after z turns the rows of the first z requests are put.
 use mathlib.Core.Path.{◌≡◌}
 use Prim.Native.Nat.{◌-◌, ◌≤◌}
-use borrow.Author.Rules.{rules}
 use lib.IntN.{pos}
-use native.Mathlib.Omega.{arith}
 use Rattle.vote.specs.Data.{request_at}
-use Rattle.walk.specs.Parts.{rows_up_to, news_of}
-use Rattle.walk.proofs.TakenApart.{rows_none, rows_more, rows_over}
+use Rattle.walk.specs.Parts.{rows_up_to}
 use Rattle.walk.proofs.parts.news_of.Given as goal
 
 abbrev pub invariant-loop-z : goal.invariant-loop-z

@@ -1,10 +1,7 @@
 -- `walk::parts::put_stamps` meets its contract: after i turns the first i items are put.
 use mathlib.Core.Path.{◌≡◌}
 use Prim.Native.Nat.{◌-◌, ◌≤◌}
-use borrow.Author.Rules.{rules}
-use native.Mathlib.Omega.{arith}
 use Rattle.walk.specs.Parts.{row_up_to}
-use Rattle.walk.proofs.TakenApart.{row_none, row_more, row_over}
 use Rattle.walk.proofs.parts.put_stamps.Given as goal
 
 abbrev pub invariant-loop-i : goal.invariant-loop-i

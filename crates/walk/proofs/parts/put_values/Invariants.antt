@@ -2,11 +2,7 @@
 use mathlib.Core.Path.{◌≡◌}
 use Prim.Native.Nat.{◌-◌, ◌≤◌}
 use lib.IntN.{pos}
-use borrow.Author.Rules.{rules, sfits_of}
-use native.Mathlib.Omega.{arith}
-use mir.Facts.{to_z-of_z}
 use Rattle.walk.specs.Parts.{row_up_to}
-use Rattle.walk.proofs.TakenApart.{row_none, row_more, row_over}
 use Rattle.walk.proofs.parts.put_values.Given as goal
 
 abbrev pub invariant-loop-i : goal.invariant-loop-i

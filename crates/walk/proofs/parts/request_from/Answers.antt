@@ -1,5 +1,4 @@
 -- `walk::parts::request_from` meets its contract: the callees' contracts, one after the other.
-use borrow.Author.Rules.{rules}
 use Rattle.walk.proofs.parts.request_from.Goals as goal
 
 pub returns : goal.returns

@@ -1,10 +1,8 @@
 -- `walk::parts::requests_from` meets its contract: an array filled from the front.
-use Prim.Native.Nat.{◌-◌, ◌≤◌}
-use borrow.Author.Rules.{rules}
 use native.Mathlib.Omega.{arith}
-use Rattle.kit.proofs.Listings.{Filled, filled_start}
-use Rattle.vote.specs.Data.{blank_request, heads_from}
-use Rattle.walk.proofs.TakenApart.{part_of, parts_more, parts_over}
+use Rattle.kit.proofs.Listings.{filled_start}
+use Rattle.vote.specs.Data.{blank_request}
+use Rattle.walk.proofs.TakenApart.{parts_more, parts_over}
 use Rattle.walk.proofs.parts.requests_from.Goals as goal
 
 pub loop-p-init : goal.loop-p-init

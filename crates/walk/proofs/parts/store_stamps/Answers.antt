@@ -1,9 +1,5 @@
 -- `walk::parts::store_stamps` meets its contract: after i turns the first i items are stored.
-use mathlib.Core.Path.{◌≡◌}
-use Prim.Native.Nat.{◌-◌, ◌≤◌}
-use borrow.Author.Rules.{rules}
 use native.Mathlib.Omega.{arith}
-use Rattle.walk.specs.Parts.{row_up_to, stored_row}
 use Rattle.walk.proofs.Stored.{stamp_means}
 use Rattle.walk.proofs.TakenApart.{row_none, row_out, row_over, stored_more}
 use Rattle.walk.proofs.parts.store_stamps.Goals as goal

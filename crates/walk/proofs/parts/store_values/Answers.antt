@@ -1,10 +1,7 @@
 -- `walk::parts::store_values` meets its contract: after i turns the first i items are stored.
-use mathlib.Core.Path.{◌≡◌}
-use Prim.Native.Nat.{◌-◌, ◌≤◌}
 use lib.IntN.{pos}
-use borrow.Author.Rules.{rules, sfits_of}
+use borrow.Author.Rules.{sfits_of}
 use native.Mathlib.Omega.{arith}
-use Rattle.walk.specs.Parts.{row_up_to, stored_row}
 use Rattle.walk.proofs.Stored.{value_means}
 use Rattle.walk.proofs.TakenApart.{row_none, row_out, row_over, stored_more}
 use Rattle.walk.proofs.parts.store_values.Goals as goal

@@ -1,11 +1,10 @@
 -- `walk::parts::values_at` meets its contract: an array filled from the front.
-use Prim.Native.Nat.{◌-◌, ◌≤◌}
-use borrow.Author.Rules.{rules, sfits_of}
+use borrow.Author.Rules.{rules}
 use native.Mathlib.Omega.{arith}
 use lib.IntN.{pos}
 use mir.Facts.{to_z-of_z}
-use Rattle.kit.proofs.Listings.{Filled, filled_start}
-use Rattle.walk.specs.Parts.{row_item}
+use mir.Syntax.{w32}
+use Rattle.kit.proofs.Listings.{filled_start}
 use Rattle.walk.proofs.TakenApart.{no_row, row_read, row_whole}
 use Rattle.walk.proofs.parts.values_at.Goals as goal
 
@@ -16,7 +15,7 @@ pub loop-i-init : goal.loop-i-init
 loop-i-init c = search (filled_start, arith)
 
 pub loop-i-preserved : goal.loop-i-preserved
-loop-i-preserved c = (omega arith, row_read (pos 0) _ _ _ c.index-at.ensures (omega arith) (to_z-of_z (sfits_of c.row-1.given)) c.loop-i.invariant.1)
+loop-i-preserved c = (omega arith, row_read (pos 0) _ _ _ c.index-at.ensures (omega arith) (to_z-of_z {w = w32} (search rules)) c.loop-i.invariant.1)
 
 pub returns : goal.returns
 returns c = search (row_whole, arith)

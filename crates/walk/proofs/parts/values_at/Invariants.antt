@@ -1,12 +1,8 @@
 -- `walk::parts::values_at` meets its contract: an array filled from the front.
 use Prim.Native.Nat.{◌-◌, ◌≤◌}
-use borrow.Author.Rules.{rules, sfits_of}
-use native.Mathlib.Omega.{arith}
 use lib.IntN.{pos}
-use mir.Facts.{to_z-of_z}
-use Rattle.kit.proofs.Listings.{Filled, filled_start}
+use Rattle.kit.proofs.Listings.{Filled}
 use Rattle.walk.specs.Parts.{row_item}
-use Rattle.walk.proofs.TakenApart.{no_row, row_read, row_whole}
 use Rattle.walk.proofs.parts.values_at.Given as goal
 
 abbrev pub invariant-loop-i : goal.invariant-loop-i

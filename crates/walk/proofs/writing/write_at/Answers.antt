@@ -1,18 +1,14 @@
 -- `walk::writing::write_at` meets its contract. The loop's invariant: the update items that are gone are written.
 use Prim.Native.Nat.{◌^◌, ◌<◌}
-use mathlib.Core.List.{[]}
-use mathlib.Core.Logic.{⊎_elim}
 use mathlib.Core.Path.{◌∙◌}
 use native.Mathlib.Omega.{arith}
-use borrow.Author.Rules.{rules, sfits_of}
-use lib.IntN.{pos}
+use borrow.Author.Rules.{sfits_of}
 use mir.Facts.{to_z-of_z}
-use Rattle.sets.proofs.Lowest.{Done, done_start, done_item, done_in, done_less, done_more, done_before, done_past, done_over}
-use Rattle.vote.specs.Data.{request_of}
-use Rattle.walk.specs.Parts.{row_at}
-use Rattle.walk.proofs.WrittenItems.{Written, written_none, written_more, written_late, written_other, written_all}
+use mir.Syntax.{w32}
+use Rattle.sets.proofs.Lowest.{done_start, done_item, done_in, done_less, done_more, done_before, done_past, done_over}
+use Rattle.walk.proofs.WrittenItems.{written_none, written_more, written_late, written_other, written_all}
 use Rattle.walk.proofs.writing.write_at.Goals as goal
-use Rattle.walk.proofs.writing.write_at.Goals.{Start}
+use Rattle.walk.proofs.writing.write_at.Goals.{Start, then-stamps-item, else-stamps-item}
 
 small : (c : Start) → c.args.q.update < 2 ^ 32
 small c = omega arith
@@ -34,8 +30,10 @@ loop-left-preserved c = let v = c.loop-left.invariant in
     let ne = c.loop-left-test.true in
     let b = done_before written_other v ne in
     done_more v ne (omega arith)
-    (⊎_elim (λ w. written_more _ b (done_in v ne) (omega arith) w.2 w.3 (to_z-of_z (sfits_of w.1.ok) ∙ w.1.ensures))
-    (λ w. written_late _ b (omega arith) w.1 w.2) c.if-stamps-item.branch)
+    (elim c.if-stamps-item.branch [
+      | then-stamps-item w ↦ written_more _ b (done_in v ne) (omega arith) w.stamps-is w.values-is (to_z-of_z {w = w32} (sfits_of w.value_at.type_inv) ∙ w.value_at.ensures)
+      | else-stamps-item w ↦ written_late _ b (omega arith) w.stamps-is w.values-is
+    ])
 
 pub returns : goal.returns
 returns c = let h = written_all (done_over written_other c.loop-left.invariant c.loop-left-test.false) in record { stamps = h.0; values = h.1 }

@@ -1,16 +1,10 @@
 -- `walk::writing::write_at` meets its contract. The loop's invariant: the update items that are gone are written.
-use Prim.Native.Nat.{◌^◌, ◌<◌}
 use mathlib.Core.List.{[]}
-use mathlib.Core.Logic.{⊎_elim}
-use mathlib.Core.Path.{◌∙◌}
-use native.Mathlib.Omega.{arith}
-use borrow.Author.Rules.{rules, sfits_of}
 use lib.IntN.{pos}
-use mir.Facts.{to_z-of_z}
-use Rattle.sets.proofs.Lowest.{Done, done_start, done_item, done_in, done_less, done_more, done_before, done_past, done_over}
+use Rattle.sets.proofs.Lowest.{Done}
 use Rattle.vote.specs.Data.{request_of}
 use Rattle.walk.specs.Parts.{row_at}
-use Rattle.walk.proofs.WrittenItems.{Written, written_none, written_more, written_late, written_other, written_all}
+use Rattle.walk.proofs.WrittenItems.{Written}
 use Rattle.walk.proofs.writing.write_at.Given as goal
 
 abbrev pub invariant-loop-left : goal.invariant-loop-left

@@ -2,7 +2,6 @@
 use mathlib.Core.Path.{◌≡◌}
 use mathlib.Core.List.{List}
 use Prim.Native.Nat.{ℕ}
-use borrow.Author.Rules.{rules}
 use lib.IntN.{ℤ}
 use Rattle.vote.specs.Verdicts.{stamps_written, values_written, stamps_ruled, values_ruled}
 use Rattle.vote.specs.declared.data.Request.{Request}
@@ -18,4 +17,4 @@ module _ {d : Verdict} (e : d ≡ verdict.Accepted) (held : List ℕ) (q : Reque
   rules-values old h = rw e h
 
 pub returns-in-Accepted : goal.returns-in-Accepted
-returns-in-Accepted c = record { stamps = search (rules-stamps, rules-values); values = search (rules-stamps, rules-values) }
+returns-in-Accepted c = record { stamps = search rules-stamps; values = search rules-values }
