@@ -1,7 +1,7 @@
 /*
  * Vundrelt for C: a night from bytes to bytes, and site files.
  *
- * Link libhouse.a (rt staticlib house; x86-64 Linux). The library keeps nothing between calls, asks the
+ * Link libhouse.a (scripts/library makes it; x86-64 Linux). The library keeps nothing between calls, asks the
  * system for nothing, and may be called from any number of threads at the same time.
  *
  * Each call but vundrelt_night_length returns the number of document 01's list: 0 where it is done, else

@@ -1,5 +1,6 @@
-// The library of the other houses: a handful of functions on numbers and bytes, which C and Rust call. include/vundrelt.h says the same to
-// a C caller. Each returns document 01's number: 0 where it is done. Beside a refusal every number given back is 0, and a buffer is as it came.
+// The library of the other houses: a handful of functions on numbers and bytes. C and Rust call them through house_c, which exports each under its
+// own name with the same clauses; include/vundrelt.h says the same to a C caller. Each returns document 01's number: 0 where it is done. Beside a
+// refusal every number given back is 0, and a buffer is as it came.
 #![tactic(auto)]
 
 ghost use Rattle.std.specs.Prelude.{◌≡◌, length};
@@ -12,8 +13,7 @@ use sitefile::{read_site_file, write_site_file};
 pub mod night;
 
 // How many bytes the lines of a night are; the largest number there is where they are more.
-#[unsafe(no_mangle)]
-pub extern "C" fn vundrelt_night_length(input: &[u8]) -> usize
+pub fn vundrelt_night_length(input: &[u8]) -> usize
     ensures { result ≡ night_length input.now }
 {
     night::night_length(input)
@@ -21,8 +21,7 @@ pub extern "C" fn vundrelt_night_length(input: &[u8]) -> usize
 
 // A night: one byte, the site count, then records. Its lines, at the front of the output, and how many bytes they are; 19 where the output is
 // too short for all of them.
-#[unsafe(no_mangle)]
-pub extern "C" fn vundrelt_night(input: &[u8], output: &mut [u8], written: &mut usize) -> u8
+pub fn vundrelt_night(input: &[u8], output: &mut [u8], written: &mut usize) -> u8
     ensures number { result ≡ (night_printed input.now (length output.old)).number }
     ensures written { written.new ≡ (night_printed input.now (length output.old)).length }
     ensures bytes { output.new ≡ night_into input.now output.old }
@@ -33,8 +32,7 @@ pub extern "C" fn vundrelt_night(input: &[u8], output: &mut [u8], written: &mut 
 }
 
 // Reads a site file: its site, and the stamps and values by item; 18 and zeros where the bytes are no site file.
-#[unsafe(no_mangle)]
-pub extern "C" fn vundrelt_read_site_file(
+pub fn vundrelt_read_site_file(
     input: &[u8],
     site: &mut u8,
     stamps: &mut [u64; 24],
@@ -56,8 +54,7 @@ pub extern "C" fn vundrelt_read_site_file(
 
 // Writes a site file at the front of the output, and says how many bytes it is; 19 where the output is too short or the site or a reading is
 // not allowed.
-#[unsafe(no_mangle)]
-pub extern "C" fn vundrelt_write_site_file(
+pub fn vundrelt_write_site_file(
     site: u8,
     stamps: &[u64; 24],
     values: &[i32; 24],

@@ -1,16 +1,16 @@
 -- Written by scripts/promises: for each public call of `majority`, no two outcomes satisfy its promise.
-use mathlib.Core.Path.{refl}
+use Rattle.std.proofs.Common.{refl}
 use Rattle.outcomes.specs.Outcomes.{OneOutcome}
 use Rattle.outcomes.proofs.Same.{as_one}
-use Rattle.majority.proofs.to_accept.Kinds as to-accept-kinds
-use Rattle.majority.proofs.to_accept.Reads as to-accept-reads
-use Rattle.majority.proofs.to_reject.Kinds as to-reject-kinds
-use Rattle.majority.proofs.to_reject.Reads as to-reject-reads
+use Rattle.majority.proofs.to_accept.Kinds as to_accept_kinds
+use Rattle.majority.proofs.to_accept.Reads as to_accept_reads
+use Rattle.majority.proofs.to_reject.Kinds as to_reject_kinds
+use Rattle.majority.proofs.to_reject.Reads as to_reject_reads
 
 -- majority::to_accept
-pub one_to_accept : OneOutcome to-accept-kinds.ps to-accept-kinds.r to-accept-reads.Learnt
+pub one_to_accept : OneOutcome to_accept_kinds.ps to_accept_kinds.r to_accept_reads.Learnt
 one_to_accept κs a r r' w w' p q = (as_one p q, refl)
 
 -- majority::to_reject
-pub one_to_reject : OneOutcome to-reject-kinds.ps to-reject-kinds.r to-reject-reads.Learnt
+pub one_to_reject : OneOutcome to_reject_kinds.ps to_reject_kinds.r to_reject_reads.Learnt
 one_to_reject κs a r r' w w' p q = (as_one p q, refl)

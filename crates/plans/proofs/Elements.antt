@@ -16,6 +16,6 @@ use Rattle.vote.specs.declared.data.Site.{Site}
 
 -- each of 7 sites in memory has said something of 16 places
 pub sites_long
-    : (sites : List Site) (us : List Val) → shadow (each (row the_type).Denot (row the_type).own sites us) → length sites ≡ 7 → (k : ℕ) → k < 7
+    : (sites : List Site) (us : List Val) → shadow (each (row the_type).Denot (row the_type).own_val sites us) → length sites ≡ 7 → (k : ℕ) → k < 7
     → length (get_or sites k no_site).votes ≡ 16
 sites_long sites us s few k h = each_at (row the_type) (λ (x : Site). length x.votes ≡ 16) (λ x u g. search (rules, length_mapped)) sites us s k no_site (rw few h)

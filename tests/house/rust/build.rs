@@ -1,4 +1,4 @@
-// Links libhouse.a, which `rt staticlib house` writes. VUNDRELT_LIB names another folder that has it.
+// Links libhouse.a, which scripts/library writes. VUNDRELT_LIB names another folder that has it.
 use std::env;
 use std::path::PathBuf;
 
