@@ -211,10 +211,8 @@ fn digit(b: u8) -> u64
 // The number that decimal digits stand for, its last nine.
 fn number_of(s: &[u8]) -> u64 {
     let mut n: u64 = 0;
-    let mut i = 0;
-    while i < s.len() {
-        n = (n * 10 + digit(s[i])) % 1_000_000_000;
-        i += 1;
+    for b in s {
+        n = (n * 10 + digit(*b)) % 1_000_000_000;
     }
     n
 }
