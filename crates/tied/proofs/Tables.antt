@@ -10,7 +10,7 @@ use lib.Dec.{eqb, leb, ltb}
 use lib.IntN.{pos}
 use lib.ListN.{length, get_or, get_or-replicate}
 use lib.Seq.{get_or-set_same, get_or-set_other}
-use Rattle.kit.specs.Lists.{listed, changed}
+use Rattle.kit.specs.Lists.{changed}
 use Rattle.kit.proofs.Bools.{clash, and_left, and_right, by_eq, by_lt, up_to}
 use Rattle.kit.proofs.Changes.{changed_at}
 use Rattle.kit.proofs.Listings.{listed_at, replicate_at}

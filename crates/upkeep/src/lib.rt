@@ -1,3 +1,2 @@
 // What keeps a table sound is theory: its definitions are in specs/, its theorems in proofs/. It has no code.
 #![tactic(auto)]
-
