@@ -1,4 +1,5 @@
 -- `steps::answering::write_answer` meets its contract: the digits are those of the number, and there is room.
+-- the first result, of 64 bits with its sign
 use borrow.Author.Rules.{rules}
 use native.Mathlib.Omega.{arith}
 use mathlib.Core.Path.{◌∙◌}
@@ -10,17 +11,16 @@ use mir.Val.{SFits}
 use Rattle.lines.proofs.Laws.{line_short}
 use Rattle.steps.specs.Night.{line_for}
 use Rattle.steps.proofs.Running.{abs_fits, line_fitted, line_placed}
-use Rattle.steps.proofs.answering.write_answer.Statement.{statement}
-use Rattle.steps.proofs.answering.write_answer.Tie as tie
+use Rattle.steps.proofs.answering.write_answer.Goals as goal
+use Rattle.steps.proofs.answering.write_answer.Goals.{After-slice_known-2-1, Start}
 
-abbrev start : tie.After-slice-known2 → tie.Start
-start c = c.before.before.before.before.before.before.before
+abbrev start : After-slice_known-2-1 → Start
+start c = (goal.at.X c).Start
 
--- the first result, of 64 bits with its sign
-signed : (c : tie.After-slice-known2) → SFits w64 (start c).args.w.first
+signed : (c : After-slice_known-2-1) → SFits w64 (start c).args.w.first
 signed c = search rules
 
-short : (c : tie.After-slice-known2) → length (line_for (start c).args.nth (start c).args.w) ≤ 89
+short : (c : After-slice_known-2-1) → length (line_for (start c).args.nth (start c).args.w) ≤ 89
 short c =
     let w = (start c).args.w in
     let n₁ : w.number < 256 = search rules in
@@ -30,14 +30,7 @@ short c =
     let n₅ : (start c).args.nth < 18446744073709551616 = search rules in
     line_short _ _ _ _ _ _ (omega arith) (omega arith) (abs_fits _ (signed c)) (omega arith) (omega arith) (omega arith)
 
-returns : tie.Need-returns
-returns c =
-    let a = (start c).args in
+pub returns : goal.returns
+returns c = let a = (start c).args in
     let p = (start c).requires in
-    let e = rw (to_z-of_z (signed c)) at c.before.before.write-counted.ensures in (
-      e.0 ∙ line_fitted _ _ _ a.w _ _ p.0 p.1 (short c),
-      (e.1 ∙ line_placed _ _ _ a.w _ _ p.0 p.1 (short c), short c),
-    )
-
-pub write-answer-spec : {M : Type 1} → statement M
-write-answer-spec = tie.close (tie.spec (λ c κs. search rules) (λ c. search rules) returns)
+    let e = rw (to_z-of_z (signed c)) at c.write_counted.ensures in record { answer = e.0 ∙ line_fitted _ _ _ a.w _ _ p.0 p.1 (short c); bytes = e.1 ∙ line_placed _ _ _ a.w _ _ p.0 p.1 (short c); short = short c }

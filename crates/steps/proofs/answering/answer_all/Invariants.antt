@@ -1,0 +1,37 @@
+-- `steps::answering::answer_all` meets its contract: each turn takes the step of a record on the rows of the table; what is left to do behind
+-- the records that were answered is all that was to do.
+-- the table as it came, and taken apart
+-- the first number in digits
+-- ---- one turn
+-- how many bytes the two buffers have
+-- the table before the record, and the record
+-- the bytes from here to the end
+-- the run ends here
+-- a begin's stamps and values were read
+-- the record answered: refused when it was read, or its step taken
+-- its line has room
+-- and is written
+-- the next record
+use Prim.Native.Nat.{◌+◌, ◌-◌, ◌≤◌, ◌<◌}
+use mathlib.Core.Logic.{⊎_elim}
+use mathlib.Core.Path.{◌≡◌, refl, sym, ◌∙◌}
+use native.Mathlib.Omega.{arith}
+use borrow.Author.Rules.{rules}
+use lib.ListN.{length, take, drop}
+use Rattle.kit.proofs.Listings.{length_mapped}
+use Rattle.record.specs.Records.{record_of}
+use Rattle.record.specs.declared.Record.{Record}
+use Rattle.table.specs.declared.data.Table.{Table}
+use Rattle.steps.specs.Night.{answered_on, part_from}
+use Rattle.steps.specs.Opened.{table_from, site_rows, request_rows, message_rows, LongRows}
+use Rattle.steps.proofs.Opening.{opening}
+use Rattle.steps.proofs.Running.{Going}
+use Rattle.steps.proofs.Turning.{Turning, Replied, turning_start, turning_over, turning_room, turning_number, turning_refused, turning_stepped, turning_wrote, turning_on, digits_start, replied_there}
+use Rattle.steps.proofs.answering.answer_all.Given as goal
+
+abbrev pub invariant-loop-stamps : goal.invariant-loop-stamps
+invariant-loop-stamps l = Turning l.t l.nth l.input l.initial.output l.end l.room (table_from l.t.count (site_rows l.ups l.lasts l.held_stamps l.held_values l.votes l.queues l.waitings l.oks l.others) (request_rows l.names l.bases l.updates l.based l.news) (message_rows l.letters l.told_oks l.told_others))
+    (site_rows l.ups l.lasts l.held_stamps l.held_values l.votes l.queues l.waitings l.oks l.others) (request_rows l.names l.bases l.updates l.based l.news) (message_rows l.letters l.told_oks l.told_others) l.free l.digits l.figures l.output l.at l.to l.next
+
+abbrev pub decreases-loop-stamps : goal.decreases-loop-stamps
+decreases-loop-stamps l = l.end - l.at
