@@ -1,17 +1,5 @@
 -- `steps::answering::answer_all` meets its contract: each turn takes the step of a record on the rows of the table; what is left to do behind
 -- the records that were answered is all that was to do.
--- the table as it came, and taken apart
--- the first number in digits
--- ---- one turn
--- how many bytes the two buffers have
--- the table before the record, and the record
--- the bytes from here to the end
--- the run ends here
--- a begin's stamps and values were read
--- the record answered: refused when it was read, or its step taken
--- its line has room
--- and is written
--- the next record
 use Prim.Native.Nat.{◌+◌, ◌-◌, ◌≤◌, ◌<◌}
 use mathlib.Core.Logic.{⊎_elim}
 use mathlib.Core.Path.{◌≡◌, refl, sym, ◌∙◌}

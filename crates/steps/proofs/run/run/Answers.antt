@@ -13,4 +13,4 @@ answer_all-requires c = sound_count _ _ c.sound.ensures c.if-not-sound.false-raw
 pub returns : goal.returns
 returns c = let a = c.args in
     let e = c.answer_all.ensures in
-    let h = run_sound a.t a.nth a.input.now a.output.now c.sound.ensures c.if-not-sound.false-raw e.0 e.1.0 e.1.1 in record { answer = h.0; bytes = h.1.0; inside = h.1.1 }
+    let h = run_sound a.t a.nth a.input.now a.output.now c.sound.ensures c.if-not-sound.false-raw e.answer e.bytes e.inside in record { answer = h.0; bytes = h.1.0; inside = h.1.1 }
