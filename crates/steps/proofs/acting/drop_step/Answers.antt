@@ -12,19 +12,19 @@ pub returns-then-number-ne0 : goal.returns-then-number-ne0
 returns-then-number-ne0 c = let x = c.args in record {
   table = λ n ss vs sr q.
       let m = message_rows x.letters.now x.told_oks.now x.told_others.now in
-      drop_refused n sr q m (step_from x.a ss vs) (drop_asked n sr q m (step_from x.a ss vs) c.index.ensures c.is_used.ensures c.drop_number-number.ensures) c.if-number-ne0.true c.refuse.ensures;
-  free = c.requires.0;
-  long = c.requires.1;
+      drop_refused n sr q m (step_from x.a ss vs) (drop_asked n sr q m (step_from x.a ss vs) c.index-x.ensures c.is_used.ensures c.drop_number-number.ensures) c.if-number-ne0.true c.refuse.ensures;
+  free = c.requires.free;
+  long = c.requires.long;
 }
 
 pub returns : goal.returns
 unfolding blank_message
 returns c = let x = c.args in
     let m = message_rows x.letters.now x.told_oks.now x.told_others.now in
-    let j = c.index in
+    let j = c.index-x in
     let w = used_there c.drop_number-number.ensures c.if-number-ne0.false in record {
       table = λ n ss vs sr q.
-          drop_end n sr q m (step_from x.a ss vs) (drop_asked n sr q m (step_from x.a ss vs) j.ensures c.is_used.ensures c.drop_number-number.ensures) c.if-number-ne0.false c.requires.1 j.ensures c.refuse-2.ensures c.unpost.ensures.letters c.unpost.ensures.oks c.unpost.ensures.others;
-      free = rw c.unpost.ensures.letters (place_given x.letters.now (letter_of blank_message) c.requires.1.letters c.requires.0 (rw j.ensures w.0) (sym c.is_used.ensures ∙ w.1) refl c.give_place.ensures);
-      long = long_put {m = m} j.result _ _ _ c.requires.1 c.unpost.ensures.letters c.unpost.ensures.oks c.unpost.ensures.others;
+          drop_end n sr q m (step_from x.a ss vs) (drop_asked n sr q m (step_from x.a ss vs) j.ensures c.is_used.ensures c.drop_number-number.ensures) c.if-number-ne0.false c.requires.long j.ensures c.refuse-2.ensures c.unpost.ensures.letters c.unpost.ensures.oks c.unpost.ensures.others;
+      free = rw c.unpost.ensures.letters (place_given x.letters.now (letter_of blank_message) c.requires.long.letters c.requires.free (rw j.ensures w.0) (sym c.is_used.ensures ∙ w.1) refl c.give_place.ensures);
+      long = long_put {m = m} j.result _ _ _ c.requires.long c.unpost.ensures.letters c.unpost.ensures.oks c.unpost.ensures.others;
     }

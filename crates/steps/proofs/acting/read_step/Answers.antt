@@ -8,4 +8,4 @@ use Rattle.steps.proofs.acting.read_step.Goals as goal
 pub returns : goal.returns
 returns c = let x = c.args in
     λ ss vs lasts votes queues waitings oks others q m.
-    read_arm x.n c.requires (site_rows x.ups.now lasts x.held-stamps.now x.held-values.now votes queues waitings oks others) q m (step_from x.a ss vs) (rw c.site_index.ensures.0 at c.read.ensures)
+    read_arm x.n c.requires (site_rows x.ups.now lasts x.held_stamps.now x.held_values.now votes queues waitings oks others) q m (step_from x.a ss vs) (rw c.site_index-k.ensures.value at c.read.ensures)

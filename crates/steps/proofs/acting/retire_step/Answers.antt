@@ -21,7 +21,7 @@ returns-then-number-ne0 c = let x = c.args in record {
       let sr = site_rows ups lasts stamps values x.votes.now queues waitings x.oks.now x.others.now in
       let q = request_rows x.names.now x.bases.now x.updates.now x.based.now x.news.now in
       let m = message_rows x.letters.now os ts in
-      retire_refused x.n sr q m (step_from x.a ss vs) (retire_asked x.n sr q m (step_from x.a ss vs) c.place_with.ensures c.is_held_back.ensures c.retire_number-number.ensures) c.if-number-ne0.true c.refuse-then-number-ne0.ensures;
+      retire_refused x.n sr q m (step_from x.a ss vs) (retire_asked x.n sr q m (step_from x.a ss vs) c.place_with-p.ensures c.is_held_back.ensures c.retire_number-number.ensures) c.if-number-ne0.true c.refuse-then-number-ne0.ensures;
   long = c.requires;
 }
 

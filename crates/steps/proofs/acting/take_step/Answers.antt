@@ -44,7 +44,7 @@ pub returns-in-2 : goal.returns-in-2
 returns-in-2 c = let x = c.args in
     let l = c.requires.1.1 in
     let e = c.tell_step.ensures in
-    record { table = code_2 _ (step_from x.a x.stamps.now x.values.now) c.match.keys2 (e.0 x.stamps.now x.values.now x.lasts.now x.held-stamps.now x.held-values.now x.queues.now x.waitings.now x.bases.now x.updates.now x.based.now x.news.now); free = e.1.0; long = record { ups = l.ups; lasts = l.lasts; sites = l.sites; requests = l.requests; messages = e.1.1 } }
+    record { table = code_2 _ (step_from x.a x.stamps.now x.values.now) c.match.keys2 (e.0 x.stamps.now x.values.now x.lasts.now x.held_stamps.now x.held_values.now x.queues.now x.waitings.now x.bases.now x.updates.now x.based.now x.news.now); free = e.1.0; long = record { ups = l.ups; lasts = l.lasts; sites = l.sites; requests = l.requests; messages = e.1.1 } }
 
 pub returns-in-3 : goal.returns-in-3
 returns-in-3 c = let x = c.args in
@@ -56,25 +56,25 @@ pub returns-in-4 : goal.returns-in-4
 returns-in-4 c = let x = c.args in
     let l = c.requires.free.1 in
     let e = c.drop_step.ensures in
-    record { table = code_4 _ (step_from x.a x.stamps.now x.values.now) c.in-4.keys4 (e.0 x.n x.stamps.now x.values.now (site_rows x.ups.now x.lasts.now x.held-stamps.now x.held-values.now x.votes.now x.queues.now x.waitings.now x.oks.now x.others.now) (request_rows x.names.now x.bases.now x.updates.now x.based.now x.news.now)); free = e.1.0; long = record { ups = l.ups; lasts = l.lasts; sites = l.sites; requests = l.requests; messages = e.1.1 } }
+    record { table = code_4 _ (step_from x.a x.stamps.now x.values.now) c.in-4.keys4 (e.0 x.n x.stamps.now x.values.now (site_rows x.ups.now x.lasts.now x.held_stamps.now x.held_values.now x.votes.now x.queues.now x.waitings.now x.oks.now x.others.now) (request_rows x.names.now x.bases.now x.updates.now x.based.now x.news.now)); free = e.1.0; long = record { ups = l.ups; lasts = l.lasts; sites = l.sites; requests = l.requests; messages = e.1.1 } }
 
 pub returns-in-5 : goal.returns-in-5
 returns-in-5 c = let x = c.args in
     let l = c.requires.free.1 in
     let e = c.down_step.ensures in
-    record { table = code_5 _ (step_from x.a x.stamps.now x.values.now) c.in-5.keys5 (e.0 x.stamps.now x.values.now x.lasts.now x.held-stamps.now x.held-values.now x.votes.now x.queues.now x.waitings.now x.oks.now x.others.now (request_rows x.names.now x.bases.now x.updates.now x.based.now x.news.now) (message_rows x.letters.now x.told_oks.now x.told_others.now)); free = c.requires.free.0; long = record { ups = e.1; lasts = l.lasts; sites = l.sites; requests = l.requests; messages = l.messages } }
+    record { table = code_5 _ (step_from x.a x.stamps.now x.values.now) c.in-5.keys5 (e.0 x.stamps.now x.values.now x.lasts.now x.held_stamps.now x.held_values.now x.votes.now x.queues.now x.waitings.now x.oks.now x.others.now (request_rows x.names.now x.bases.now x.updates.now x.based.now x.news.now) (message_rows x.letters.now x.told_oks.now x.told_others.now)); free = c.requires.free.0; long = record { ups = e.1; lasts = l.lasts; sites = l.sites; requests = l.requests; messages = l.messages } }
 
 pub returns-in-6 : goal.returns-in-6
 returns-in-6 c = let x = c.args in
     let l = c.requires.free.1 in
     let e = c.up_step.ensures in
-    record { table = code_6 _ (step_from x.a x.stamps.now x.values.now) c.in-6.keys6 (e.0 x.stamps.now x.values.now x.lasts.now x.held-stamps.now x.held-values.now x.votes.now x.queues.now x.waitings.now x.oks.now x.others.now (request_rows x.names.now x.bases.now x.updates.now x.based.now x.news.now) (message_rows x.letters.now x.told_oks.now x.told_others.now)); free = c.requires.free.0; long = record { ups = e.1; lasts = l.lasts; sites = l.sites; requests = l.requests; messages = l.messages } }
+    record { table = code_6 _ (step_from x.a x.stamps.now x.values.now) c.in-6.keys6 (e.0 x.stamps.now x.values.now x.lasts.now x.held_stamps.now x.held_values.now x.votes.now x.queues.now x.waitings.now x.oks.now x.others.now (request_rows x.names.now x.bases.now x.updates.now x.based.now x.news.now) (message_rows x.letters.now x.told_oks.now x.told_others.now)); free = c.requires.free.0; long = record { ups = e.1; lasts = l.lasts; sites = l.sites; requests = l.requests; messages = l.messages } }
 
 pub returns-in-7 : goal.returns-in-7
 returns-in-7 c = let x = c.args in
     let l = c.requires.1.1 in
     let e = c.retire_step.ensures in
-    record { table = code_7 _ (step_from x.a x.stamps.now x.values.now) c.match.keys7 (e.0 x.stamps.now x.values.now x.ups.now x.lasts.now x.held-stamps.now x.held-values.now x.queues.now x.waitings.now x.told_oks.now x.told_others.now); free = c.requires.1.0; long = record { ups = l.ups; lasts = l.lasts; sites = record { stamps = l.sites.stamps; values = l.sites.values; votes = e.1.1.0; queues = l.sites.queues; waitings = l.sites.waitings; oks = e.1.1.1.0; others = e.1.1.1.1 }; requests = e.1.0; messages = l.messages } }
+    record { table = code_7 _ (step_from x.a x.stamps.now x.values.now) c.match.keys7 (e.0 x.stamps.now x.values.now x.ups.now x.lasts.now x.held_stamps.now x.held_values.now x.queues.now x.waitings.now x.told_oks.now x.told_others.now); free = c.requires.1.0; long = record { ups = l.ups; lasts = l.lasts; sites = record { stamps = l.sites.stamps; values = l.sites.values; votes = e.1.1.0; queues = l.sites.queues; waitings = l.sites.waitings; oks = e.1.1.1.0; others = e.1.1.1.1 }; requests = e.1.0; messages = l.messages } }
 
 pub returns-in-8 : goal.returns-in-8
 returns-in-8 c = let x = c.args in
@@ -85,7 +85,7 @@ returns-in-8 c = let x = c.args in
 pub returns-in-0 : goal.returns-in-0
 returns-in-0 c = let x = c.args in
     let a = step_from x.a x.stamps.now x.values.now in
-    let t = ap {B = Stepped} (λ (w : Answer). record { answer = w; table = table_from x.n (site_rows x.ups.now x.lasts.now x.held-stamps.now x.held-values.now x.votes.now x.queues.now x.waitings.now x.oks.now x.others.now) (request_rows x.names.now x.bases.now x.updates.now x.based.now x.news.now) (message_rows x.letters.now x.told_oks.now x.told_others.now) }) c.refuse.ensures in
+    let t = ap {B = Stepped} (λ (w : Answer). record { answer = w; table = table_from x.n (site_rows x.ups.now x.lasts.now x.held_stamps.now x.held_values.now x.votes.now x.queues.now x.waitings.now x.oks.now x.others.now) (request_rows x.names.now x.bases.now x.updates.now x.based.now x.news.now) (message_rows x.letters.now x.told_oks.now x.told_others.now) }) c.refuse.ensures in
     ⊎_elim (λ z. (code_none _ a (λ e. absurd (let y = z.keys9 in let v : ⊥ = omega (arith, e, y) in v)) (λ e. absurd (let y = z.keys9 in let v : ⊥ = omega (arith, e, y) in v)) (λ e. absurd (let y = z.keys9 in let v : ⊥ = omega (arith, e, y) in v)) (λ e. absurd (let y = z.keys9 in let v : ⊥ = omega (arith, e, y) in v)) (λ e. absurd (let y = z.keys9 in let v : ⊥ = omega (arith, e, y) in v)) (λ e. absurd (let y = z.keys9 in let v : ⊥ = omega (arith, e, y) in v)) (λ e. absurd (let y = z.keys9 in let v : ⊥ = omega (arith, e, y) in v)) (λ e. absurd (let y = z.keys9 in let v : ⊥ = omega (arith, e, y) in v)) t, c.requires.free))
     (λ z. let r = z.rest in
     (code_none _ a r.0.0.0.0.0.0.0.0.1 r.0.0.0.0.0.0.0.1 r.0.0.0.0.0.0.1 r.0.0.0.0.0.1 r.0.0.0.0.1 r.0.0.0.1 r.0.0.1 r.0.1 t, c.requires.free))
