@@ -1,5 +1,4 @@
 -- `kit::read_field` meets its contract. The invariant: v is the number of the bytes from k on, k going down.
--- what has been read is below 256 ^ 7
 use mathlib.Core.Path.{sym, ◌∙◌, subst}
 use Prim.Native.Nat.{ℕ, ◌+◌, ◌-◌, ◌^◌, ◌<◌}
 use native.Mathlib.Omega.{arith}
@@ -8,6 +7,7 @@ use Rattle.kit.proofs.Fields.{field_in, field_long, field_out, ends_in, ends_out
 use Rattle.kit.proofs.read_field.Goals as goal
 use Rattle.kit.proofs.read_field.Goals.{In-loop-k}
 
+-- what has been read is below 256 ^ 7
 small : (c : In-loop-k) → c.loop-k.v < 72057594037927936
 small c =
     let l = c.loop-k in

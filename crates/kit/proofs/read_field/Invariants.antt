@@ -1,5 +1,4 @@
 -- `kit::read_field` meets its contract. The invariant: v is the number of the bytes from k on, k going down.
--- what has been read is below 256 ^ 7
 use mathlib.Core.Path.{◌≡◌}
 use Prim.Native.Nat.{◌+◌, ◌-◌, ◌≤◌}
 use lib.ListN.{length, drop}

@@ -1,4 +1,3 @@
--- where the test passed, z is its magnitude; where it failed, the bits turned over are
 use mathlib.Core.Path.{◌≡◌, ap, sym, ◌∙◌}
 use mathlib.Core.Bool.{true, false}
 use Prim.Native.Nat.{◌-◌}
@@ -15,6 +14,7 @@ use Rattle.kit.proofs.unsigned.Goals.{Else-z-ge0, Then-z-ge0}
 above : (c : Then-z-ge0) → le_z (pos 0) c.args.z ≡ true
 above c = ap (le_z (pos 0)) (sym (to_z-of_z c.ranges.z)) ∙ c.if-z-ge0.true
 
+-- where the test passed, z is its magnitude; where it failed, the bits turned over are
 plus : (c : Then-z-ge0) → to_z w32 (of_z w32 c.args.z) ≡ pos (mag c.args.z)
 plus c =
     let z = c.args.z in

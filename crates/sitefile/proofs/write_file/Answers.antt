@@ -1,5 +1,4 @@
 -- `sitefile::write_file` meets its contract.
--- behind the entries there is room for the trailer
 use Prim.Native.Nat.{◌+◌, ◌≤◌}
 use native.Mathlib.Omega.{arith}
 use lib.ListN.{length}
@@ -7,6 +6,7 @@ use Rattle.sitefile.proofs.Writes.{entries_room, trailer_room, file_put}
 use Rattle.sitefile.proofs.write_file.Goals as goal
 use Rattle.sitefile.proofs.write_file.Goals.{After-write_entries-at}
 
+-- behind the entries there is room for the trailer
 room : (c : After-write_entries-at) → c.write_entries-at.result + 8 ≤ length c.args.d.now
 room c = trailer_room _ _ _ _ _ c.write_entries-at.ensures.0 c.requires
 

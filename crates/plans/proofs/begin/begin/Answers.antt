@@ -1,9 +1,4 @@
 -- `plans::begin::begin` meets its contract: a law for each way through it.
--- the function's entry
--- the step
--- a stamp is left to be issued
--- what came of issuing
--- the three ways on
 use Prim.Native.Nat.{◌<◌}
 use Rattle.plans.proofs.Beginning.{begin_nobody, begin_down, begin_sets, begin_stamps, begin_values, begin_rest, begin_past, begin_full, begin_done, stamp_small}
 use Rattle.plans.proofs.Digits.{digit_high}

@@ -1,6 +1,4 @@
 -- `plans::letters::free_set` meets its contract: after j turns it is the set of the free places below j.
--- place j is free
--- a turn's place
 use Prim.Native.Nat.{◌<◌}
 use Rattle.plans.specs.Letters.{free_set}
 use Rattle.sets.specs.Sets.{set_of}
@@ -11,6 +9,7 @@ use native.Mathlib.Omega.{arith}
 use Rattle.plans.proofs.letters.free_set.Goals as goal
 use Rattle.plans.proofs.letters.free_set.Goals.{After-free_digit}
 
+-- a turn's place
 small : (c : After-free_digit) → c.loop-j.j < 64
 small c = omega arith
 

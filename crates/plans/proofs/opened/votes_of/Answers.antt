@@ -1,5 +1,4 @@
 -- `plans::opened::votes_of` meets its contract: each place is put, and nothing is lost.
--- nothing is lost
 use Rattle.kit.proofs.Listings.{length_mapped}
 use Rattle.kit.proofs.Turns.{laid_none, laid_more, laid_all}
 use Rattle.plans.specs.Opened.{ups_in, lasts_in, stamps_in, values_in, votes_in, queues_in, waitings_in, oks_in, others_in, sites_from}

@@ -1,5 +1,4 @@
 -- `plans::opened::votes_of` meets its contract: each place is put, and nothing is lost.
--- nothing is lost
 use Prim.Native.Nat.{◌-◌}
 use Rattle.kit.proofs.Turns.{Laid}
 use Rattle.table.specs.Places.{no_site}

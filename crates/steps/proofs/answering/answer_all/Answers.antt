@@ -54,16 +54,16 @@ replied c =
     let r = c.read_next-r.ensures in
     let f = c.if-size-eq0.false in
     elim c.if-number-eq0.branch [
-      then-number-eq0 w ↦
-      let e = w.take_step-answer.ensures in
-      let arrays : c.read_next-r.result.code ≡ 1 → (w.if-r-eq1.stamps ≡ (record_of (take (c.bytes_in-end.result - c.loop-stamps.at) (drop c.loop-stamps.at c.args.input.now))).step.stamps) × (w.if-r-eq1.values ≡ (record_of (take (c.bytes_in-end.result - c.loop-stamps.at) (drop c.loop-stamps.at c.args.input.now))).step.values) =
-        λ q. elim w.if-r-eq1.branch [ then-r-eq1 v ↦ (v.stamps-is ∙ v.read_numbers.ensures.stamps, v.values-is ∙ v.read_numbers.ensures.values) | else-r-eq1 v ↦ absurd (v.if-r-eq1.false q) ]
-      in
-      replied_there (record { is = turning_stepped g r f w.if-number-eq0.true arrays e.table; long = e.long; free_are = e.free })
-      w.ups-is w.lasts-is w.held_stamps-is w.held_values-is w.votes-is w.queues-is w.waitings-is w.oks-is w.others-is w.names-is w.bases-is w.updates-is w.based-is w.news-is w.letters-is w.told_oks-is w.told_others-is w.free-is w.answer-is
-    | else-number-eq0 w ↦
-      replied_there (record { is = turning_refused g r f w.if-number-eq0.false c.refuse-answer.ensures; long = g.long; free_are = g.free_are })
-      w.ups-is w.lasts-is w.held_stamps-is w.held_values-is w.votes-is w.queues-is w.waitings-is w.oks-is w.others-is w.names-is w.bases-is w.updates-is w.based-is w.news-is w.letters-is w.told_oks-is w.told_others-is w.free-is w.answer-is
+      | then-number-eq0 w ↦
+          let e = w.take_step-answer.ensures in
+          let arrays : c.read_next-r.result.code ≡ 1 → (w.if-r-eq1.stamps ≡ (record_of (take (c.bytes_in-end.result - c.loop-stamps.at) (drop c.loop-stamps.at c.args.input.now))).step.stamps) × (w.if-r-eq1.values ≡ (record_of (take (c.bytes_in-end.result - c.loop-stamps.at) (drop c.loop-stamps.at c.args.input.now))).step.values) =
+          λ q. elim w.if-r-eq1.branch [ then-r-eq1 v ↦ (v.stamps-is ∙ v.read_numbers.ensures.stamps, v.values-is ∙ v.read_numbers.ensures.values) | else-r-eq1 v ↦ absurd (v.if-r-eq1.false q) ]
+          in
+          replied_there (record { is = turning_stepped g r f w.if-number-eq0.true arrays e.table; long = e.long; free_are = e.free })
+          w.ups-is w.lasts-is w.held_stamps-is w.held_values-is w.votes-is w.queues-is w.waitings-is w.oks-is w.others-is w.names-is w.bases-is w.updates-is w.based-is w.news-is w.letters-is w.told_oks-is w.told_others-is w.free-is w.answer-is
+      | else-number-eq0 w ↦
+          replied_there (record { is = turning_refused g r f w.if-number-eq0.false c.refuse-answer.ensures; long = g.long; free_are = g.free_are })
+          w.ups-is w.lasts-is w.held_stamps-is w.held_values-is w.votes-is w.queues-is w.waitings-is w.oks-is w.others-is w.names-is w.bases-is w.updates-is w.based-is w.news-is w.letters-is w.told_oks-is w.told_others-is w.free-is w.answer-is
     ]
 
 -- its line has room and is written

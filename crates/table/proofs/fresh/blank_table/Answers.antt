@@ -15,8 +15,8 @@ use Rattle.table.specs.declared.data.Message.{Message}
 use Rattle.table.proofs.Fills.{filled_from}
 use Rattle.table.proofs.fresh.blank_table.Goals as goal
 
-up-means : {s : Site} (k : ℕ) {i n : ℕ} → s ≡ blank_site (ltb k i) → i ≡ n → s ≡ blank_site (ltb k n)
-up-means k e f = rw (← f) e
+up_means : {s : Site} (k : ℕ) {i n : ℕ} → s ≡ blank_site (ltb k i) → i ≡ n → s ≡ blank_site (ltb k n)
+up_means k e f = rw (← f) e
 
 made
     : {n : ℕ} {sites : List Site} {q : Request} {m : Message} → sites ≡ listed 7 (λ k. blank_site (ltb k n)) → q ≡ blank_request → m ≡ blank_message
@@ -28,7 +28,7 @@ pub loop-k-init : goal.loop-k-init
 loop-k-init c = search (filled_from, arith)
 
 pub loop-k-preserved : goal.loop-k-preserved
-loop-k-preserved c = search (filled_put, up-means, arith)
+loop-k-preserved c = search (filled_put, up_means, arith)
 
 pub returns : goal.returns
 returns c = search (made, filled_end)

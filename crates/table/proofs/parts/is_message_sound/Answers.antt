@@ -1,5 +1,4 @@
 -- `table::parts::is_message_sound` meets its contract: one test after the other.
--- a message that is used
 use mathlib.Core.Path.{◌≡◌, sym, ◌∙◌}
 use mathlib.Core.Bool.{Bool, false, not, ◌&&◌}
 use mathlib.Core.List.{List}
@@ -16,9 +15,10 @@ use Rattle.table.proofs.Chains.{choices}
 use Rattle.table.proofs.Marked.{rows_at, rows_of, rows_in}
 use Rattle.table.proofs.parts.is_message_sound.Goals as goal
 
-place-known : {r : Bool} (p : ℕ) (b : Bool) → r ≡ (ltb p 16 && b) → not r ≡ false → p < 16
-place-known {r} p b e f = ltb-true p 16 (and_left (ltb p 16) b (sym e ∙ not-false r f))
+place_known : {r : Bool} (p : ℕ) (b : Bool) → r ≡ (ltb p 16 && b) → not r ≡ false → p < 16
+place_known {r} p b e f = ltb-true p 16 (and_left (ltb p 16) b (sym e ∙ not-false r f))
 
+-- a message that is used
 sent
     : (n : ℕ) (agreed opposed : List Bool) {r x y : Bool} (stamps : List ℕ) (m : Message) → not m.used ≡ false
     → x ≡ (ltb m.request 16 && not (eqb (get_or stamps m.request 0) 0)) → not x ≡ false
@@ -28,7 +28,7 @@ sent
 unfolding message_sound
 sent n agreed opposed stamps m u e f g h k =
     rw (not-false m.used u)
-    (and_passed e f (and_passed g h (rw (rows_in agreed opposed m.request (place-known m.request _ e f)) k)))
+    (and_passed e f (and_passed g h (rw (rows_in agreed opposed m.request (place_known m.request _ e f)) k)))
 
 pub is_blank_message-requires : goal.is_blank_message-requires
 unfolding message_sound
@@ -55,7 +55,7 @@ unfolding message_sound
 returns-then-not-are_two_sites c = search (choices, refusals)
 
 pub is_content_right-requires : goal.is_content_right-requires
-is_content_right-requires c = record { p_bound = place-known _ _ c.is_used_place.ensures c.if-not-is_used_place.false-raw; agreeing_value = search rules; opposing_value = search rules }
+is_content_right-requires c = record { p_bound = place_known _ _ c.is_used_place.ensures c.if-not-is_used_place.false-raw; agreeing_value = search rules; opposing_value = search rules }
 
 pub returns : goal.returns
 returns c = let a = c.args in

@@ -14,20 +14,20 @@ use Rattle.table.proofs.Marked.{row_empty}
 use Rattle.table.proofs.parts.is_standing_right.Goals as goal
 
 module _ (n : ℕ) (v : Vote) (oks others : List Bool) (p : ℕ) {o u : Bool} (e : o ≡ is_open v.verdict) where
-  open-right
+  open_right_lem
       : {r : Bool} {x y : ℕ} → o ≡ true → u ≡ is_unmarked v.mark → x ≡ voters_known oks p → y ≡ voters_known others p
       → r ≡ (not (leb (majority n) x) && (not (leb (blocking n) y) && implies u (eqb x 0 && eqb y 0)))
       → r ≡ cond (is_open v.verdict) (open_right n (is_unmarked v.mark) (voters_of oks p) (voters_of others p)) (not (is_deferred v.mark))
   unfolding voters_known
-  open-right t f g h k = rw (← e, t, ← f, row_empty (voters_of oks p), row_empty (voters_of others p), ← g, ← h) k
+  open_right_lem t f g h k = rw (← e, t, ← f, row_empty (voters_of oks p), row_empty (voters_of others p), ← g, ← h) k
 
-  judged-right
+  judged_right
       : o ≡ false → u ≡ is_deferred v.mark
       → not u ≡ cond (is_open v.verdict) (open_right n (is_unmarked v.mark) (voters_of oks p) (voters_of others p)) (not (is_deferred v.mark))
-  judged-right t f = rw (← e, t, f)
+  judged_right t f = rw (← e, t, f)
 
 pub returns-then-is_open : goal.returns-then-is_open
-returns-then-is_open c = search open-right
+returns-then-is_open c = search open_right_lem
 
 pub returns : goal.returns
-returns c = search judged-right
+returns c = search judged_right

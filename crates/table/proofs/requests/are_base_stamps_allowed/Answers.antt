@@ -1,5 +1,4 @@
 -- `table::requests::are_base_stamps_allowed` meets its contract: a loop over the items of the base set that returns at the first that fails.
--- the base stamp of item i is well formed
 use Prim.Native.Nat.{◌^◌, ◌<◌}
 use native.Mathlib.Omega.{arith}
 use borrow.Author.Rules.{rules}

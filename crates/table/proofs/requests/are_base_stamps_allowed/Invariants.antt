@@ -1,5 +1,4 @@
 -- `table::requests::are_base_stamps_allowed` meets its contract: a loop over the items of the base set that returns at the first that fails.
--- the base stamp of item i is well formed
 use mathlib.Core.Bool.{Bool}
 use mathlib.Core.List.{List}
 use Prim.Native.Nat.{ℕ}
@@ -8,6 +7,7 @@ use Rattle.stamps.specs.Stamps.{well_formed}
 use Rattle.table.proofs.Runs.{Passed}
 use Rattle.table.proofs.requests.are_base_stamps_allowed.Given as goal
 
+-- the base stamp of item i is well formed
 abbrev pub formed : ℕ → List ℕ → ℕ → Bool
 formed n based i = well_formed n (get_or based i 0)
 

@@ -1,5 +1,4 @@
 -- `table::requests::are_values_allowed` meets its contract: a loop over the items of the update set that returns at the first that fails.
--- the value of item i is in range
 use Prim.Native.Nat.{◌^◌, ◌<◌}
 use native.Mathlib.Omega.{arith}
 use borrow.Author.Rules.{rules}

@@ -1,5 +1,4 @@
 -- `table::requests::are_values_allowed` meets its contract: a loop over the items of the update set that returns at the first that fails.
--- the value of item i is in range
 use mathlib.Core.Bool.{Bool}
 use mathlib.Core.List.{List}
 use Prim.Native.Nat.{ℕ}
@@ -9,6 +8,7 @@ use Rattle.readings.specs.Readings.{in_range}
 use Rattle.table.proofs.Runs.{Passed}
 use Rattle.table.proofs.requests.are_values_allowed.Given as goal
 
+-- the value of item i is in range
 abbrev pub ranged : List ℤ → ℕ → Bool
 ranged values i = in_range (get_or values i (pos 0))
 

@@ -1,6 +1,4 @@
 -- `vote::consider::is_blocked` meets its contract: a loop over the pending that returns at the first hit computes `any`.
--- the request at place j conflicts with q
--- the pending are among the 16 places
 use Prim.Native.Nat.{◌^◌, ◌<◌}
 use native.Mathlib.Omega.{arith}
 use Rattle.sets.proofs.Lowest.{sought_start, sought_item, sought_below, sought_less, sought_more, sought_found, sought_over}
@@ -8,6 +6,7 @@ use Rattle.vote.proofs.Considering.{conflict_means, pending_lt, blocked_from}
 use Rattle.vote.proofs.consider.is_blocked.Goals as goal
 use Rattle.vote.proofs.consider.is_blocked.Goals.{After-pending_in-left}
 
+-- the pending are among the 16 places
 few : (c : After-pending_in-left) → c.pending_in-left.result < 2 ^ 16
 few c = pending_lt _ c.pending_in-left.ensures
 

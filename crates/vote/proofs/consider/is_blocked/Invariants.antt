@@ -1,6 +1,4 @@
 -- `vote::consider::is_blocked` meets its contract: a loop over the pending that returns at the first hit computes `any`.
--- the request at place j conflicts with q
--- the pending are among the 16 places
 use mathlib.Core.Bool.{Bool}
 use mathlib.Core.List.{List}
 use Prim.Native.Nat.{ℕ}
@@ -10,6 +8,7 @@ use Rattle.vote.specs.Requests.{conflicts}
 use Rattle.vote.specs.declared.data.Head.{Head}
 use Rattle.vote.proofs.consider.is_blocked.Given as goal
 
+-- the request at place j conflicts with q
 abbrev pub stands : Head → List Head → ℕ → Bool
 stands q heads j = conflicts q (head_at heads j)
 

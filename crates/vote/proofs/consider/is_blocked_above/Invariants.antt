@@ -1,6 +1,4 @@
 -- `vote::consider::is_blocked_above` meets its contract: a loop over the pending that returns at the first hit computes `any`.
--- and has higher priority
--- the pending are among the 16 places
 use mathlib.Core.Bool.{Bool, ◌&&◌}
 use mathlib.Core.List.{List}
 use Prim.Native.Nat.{ℕ}
@@ -10,6 +8,7 @@ use Rattle.vote.specs.Requests.{conflicts, outranks}
 use Rattle.vote.specs.declared.data.Head.{Head}
 use Rattle.vote.proofs.consider.is_blocked_above.Given as goal
 
+-- and has higher priority
 abbrev pub stands : Head → List Head → ℕ → Bool
 stands q heads j = conflicts q (head_at heads j) && outranks (head_at heads j) q
 

@@ -1,5 +1,4 @@
 -- `vote::consider::is_newer` meets its contract: a loop over the items of the base set that returns at the first hit computes `any`.
--- the copy of item i is the newer
 use Prim.Native.Nat.{◌^◌, ◌<◌}
 use native.Mathlib.Omega.{arith}
 use borrow.Author.Rules.{rules}

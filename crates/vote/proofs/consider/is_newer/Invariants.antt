@@ -1,5 +1,4 @@
 -- `vote::consider::is_newer` meets its contract: a loop over the items of the base set that returns at the first hit computes `any`.
--- the copy of item i is the newer
 use mathlib.Core.Bool.{Bool}
 use mathlib.Core.List.{List}
 use Prim.Native.Nat.{ℕ}
@@ -8,6 +7,7 @@ use lib.ListN.{get_or}
 use Rattle.sets.proofs.Lowest.{Sought}
 use Rattle.vote.proofs.consider.is_newer.Given as goal
 
+-- the copy of item i is the newer
 abbrev pub newer : List ℕ → List ℕ → ℕ → Bool
 newer based held i = ltb (get_or based i 0) (get_or held i 0)
 

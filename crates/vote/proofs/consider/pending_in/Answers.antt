@@ -1,6 +1,4 @@
 -- `vote::consider::pending_in` meets its contract: after j turns it is the set of the pending below place j.
--- the request at place j is pending
--- a turn's place, and what it counts
 use mathlib.Core.Path.{◌≡◌, refl, sym, ap, ◌∙◌}
 use Prim.Native.Nat.{◌<◌}
 use native.Mathlib.Omega.{arith}
@@ -16,6 +14,7 @@ use Rattle.vote.proofs.consider.pending_in.Goals as goal
 use Rattle.vote.proofs.consider.pending_in.Goals.{After-one_if}
 use Rattle.vote.proofs.consider.pending_in.Invariants.{waits}
 
+-- a turn's place, and what it counts
 small : (c : After-one_if) → c.loop-j.j < 32
 small c = omega arith
 

@@ -1,6 +1,4 @@
 -- `vote::consider::pending_in` meets its contract: after j turns it is the set of the pending below place j.
--- the request at place j is pending
--- a turn's place, and what it counts
 use mathlib.Core.Bool.{Bool}
 use mathlib.Core.List.{List}
 use mathlib.Core.Path.{◌≡◌}
@@ -11,6 +9,7 @@ use Rattle.vote.specs.Data.{is_pending, vote_at}
 use Rattle.vote.specs.declared.data.Vote.{Vote}
 use Rattle.vote.proofs.consider.pending_in.Given as goal
 
+-- the request at place j is pending
 abbrev pub waits : List Vote → ℕ → Bool
 waits votes j = is_pending (vote_at votes j)
 

@@ -11,23 +11,23 @@ use Rattle.vote.proofs.Considering.{not_blocked_not_above}
 use Rattle.vote.proofs.consider.weigh.Goals as goal
 
 module _ (heads : List Head) (votes : List Vote) (q : Head) {b : Bool} (pending : b ≡ blocked heads votes q) where
-  rule-5 : not b ≡ true → outcome.Ok ≡ weighed heads votes q
-  rule-5 k =
+  rule_5 : not b ≡ true → outcome.Ok ≡ weighed heads votes q
+  rule_5 k =
       let e : blocked heads votes q ≡ false = rw (← pending, not-true b k) in
       rw (not_blocked_not_above heads votes q e, e)
 
   module _ {a : Bool} (k : not b ≡ false) (above : a ≡ blocked_above heads votes q) where
-    rule-3 : a ≡ true → outcome.Dr ≡ weighed heads votes q
-    rule-3 t = rw (← above, t)
+    rule_3 : a ≡ true → outcome.Dr ≡ weighed heads votes q
+    rule_3 t = rw (← above, t)
 
-    rule-4 : a ≡ false → outcome.DeferPending ≡ weighed heads votes q
-    rule-4 t = rw (← above, t, ← pending, not-false b k)
+    rule_4 : a ≡ false → outcome.DeferPending ≡ weighed heads votes q
+    rule_4 t = rw (← above, t, ← pending, not-false b k)
 
 pub returns-then-not-is_blocked : goal.returns-then-not-is_blocked
-returns-then-not-is_blocked c = search rule-5
+returns-then-not-is_blocked c = search rule_5
 
 pub returns-then-is_blocked_above : goal.returns-then-is_blocked_above
-returns-then-is_blocked_above c = search rule-3
+returns-then-is_blocked_above c = search rule_3
 
 pub returns : goal.returns
-returns c = search rule-4
+returns c = search rule_4

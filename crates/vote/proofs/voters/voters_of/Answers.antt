@@ -1,5 +1,4 @@
 -- `vote::voters::voters_of` meets its contract: an array filled from the front.
--- one voter more
 use borrow.Author.Rules.{rules}
 use native.Mathlib.Omega.{arith}
 use Rattle.kit.proofs.Listings.{filled_start, filled_end}

@@ -1,5 +1,4 @@
 -- `vote::voters::voters_of` meets its contract: an array filled from the front.
--- one voter more
 use mathlib.Core.Bool.{false}
 use Prim.Native.Nat.{◌-◌, ◌≤◌}
 use Rattle.kit.proofs.Listings.{Filled}

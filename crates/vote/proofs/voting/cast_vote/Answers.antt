@@ -12,24 +12,24 @@ use Rattle.vote.proofs.NoteRows.{votes_said}
 use Rattle.vote.proofs.voting.cast_vote.Goals as goal
 
 module _ (me : ℕ) (known : List Bool) (p : ℕ) (m : Mark) {r : Bool} (ok : r ≡ is_ok_vote m) where
-  joins-oks : {more : List Bool} → r ≡ true → more ≡ join_voters known p (only_voter me) → more ≡ oks_voted me known p m
+  joins_oks : {more : List Bool} → r ≡ true → more ≡ join_voters known p (only_voter me) → more ≡ oks_voted me known p m
   unfolding oks_voted
-  joins-oks y e = rw (e, ← ok, y)
+  joins_oks y e = rw (e, ← ok, y)
 
-  keeps-oks : r ≡ false → known ≡ oks_voted me known p m
+  keeps_oks : r ≡ false → known ≡ oks_voted me known p m
   unfolding oks_voted
-  keeps-oks y = rw (← ok, y)
+  keeps_oks y = rw (← ok, y)
 
-  joins-others : {more : List Bool} → r ≡ false → more ≡ join_voters known p (only_voter me) → more ≡ others_voted me known p m
+  joins_others : {more : List Bool} → r ≡ false → more ≡ join_voters known p (only_voter me) → more ≡ others_voted me known p m
   unfolding others_voted
-  joins-others y e = rw (e, ← ok, y)
+  joins_others y e = rw (e, ← ok, y)
 
-  keeps-others : r ≡ true → known ≡ others_voted me known p m
+  keeps_others : r ≡ true → known ≡ others_voted me known p m
   unfolding others_voted
-  keeps-others y = rw (← ok, y)
+  keeps_others y = rw (← ok, y)
 
 pub returns-then-is_ok : goal.returns-then-is_ok
-returns-then-is_ok c = record { votes = search rules; said = search votes_said; oks = search joins-oks; others = search keeps-others }
+returns-then-is_ok c = record { votes = search rules; said = search votes_said; oks = search joins_oks; others = search keeps_others }
 
 pub returns : goal.returns
-returns c = record { votes = search rules; said = search votes_said; oks = search keeps-oks; others = search joins-others }
+returns c = record { votes = search rules; said = search votes_said; oks = search keeps_oks; others = search joins_others }

@@ -12,24 +12,24 @@ use Rattle.vote.specs.declared.data.Vote.{Vote}
 use Rattle.walk.proofs.considering.consider_at.Goals as goal
 
 module _ (heads : List Head) (votes : List Vote) (held row : List ℕ) (p : ℕ) {q : Head} (head : q ≡ head_at heads p) {n : Bool} (newer : n ≡ newer_copy q.base row held) where
-  rule-1 : n ≡ true → outcome.Rej ≡ considered heads votes held (request_of (head_at heads p) row [])
+  rule_1 : n ≡ true → outcome.Rej ≡ considered heads votes held (request_of (head_at heads p) row [])
   unfolding considered
-  rule-1 t = rw (← head, ← newer, t)
+  rule_1 t = rw (← head, ← newer, t)
 
   module _ {o : Bool} (f : n ≡ false) (older : o ≡ older_copy q.base row held) where
-    rule-2 : o ≡ true → outcome.DeferBase ≡ considered heads votes held (request_of (head_at heads p) row [])
+    rule_2 : o ≡ true → outcome.DeferBase ≡ considered heads votes held (request_of (head_at heads p) row [])
     unfolding considered
-    rule-2 t = rw (← head, ← newer, f, ← older, t)
+    rule_2 t = rw (← head, ← newer, f, ← older, t)
 
     others : {x : Outcome} → o ≡ false → x ≡ weighed heads votes q → x ≡ considered heads votes held (request_of (head_at heads p) row [])
     unfolding considered
     others g w = rw (← head, ← newer, f, ← older, g) w
 
 pub returns-then-is_newer_at : goal.returns-then-is_newer_at
-returns-then-is_newer_at c = search rule-1
+returns-then-is_newer_at c = search rule_1
 
 pub returns-then-is_older_at : goal.returns-then-is_older_at
-returns-then-is_older_at c = search rule-2
+returns-then-is_older_at c = search rule_2
 
 pub returns : goal.returns
 returns c = search others

@@ -19,16 +19,16 @@ pub resolve-walk-later-requires : goal.resolve-walk-later-requires
 resolve-walk-later-requires t c = omega (arith, ruled_fewer _ _ _ c.rule-fewer.ensures.notes)
 
 -- the verdicts of the walk are few
-few-later : (t : ℕ) (c : resolve-After-walk-later t) → c.walk-later.result.accepted + c.walk-later.result.rejected < 256
-few-later t c =
+few_later : (t : ℕ) (c : resolve-After-walk-later t) → c.walk-later.result.accepted + c.walk-later.result.rejected < 256
+few_later t c =
     let h = few_answers _ _ _ _ (notes_from c.rule-fewer.new.votes c.rule-fewer.new.queue c.rule-fewer.result) _ _ _ _ c.walk-later.ensures in
     omega (arith, h, ruled_fewer _ _ _ c.rule-fewer.ensures.notes)
 
 pub resolve-overflow_add-result : goal.resolve-overflow_add-result
-resolve-overflow_add-result t c = omega (arith, few-later t (goal.at.resolve-overflow_add-result t c).After-walk-later, one_accepted c.args.v)
+resolve-overflow_add-result t c = omega (arith, few_later t (goal.at.resolve-overflow_add-result t c).After-walk-later, one_accepted c.args.v)
 
 pub resolve-overflow_add-result-2 : goal.resolve-overflow_add-result-2
-resolve-overflow_add-result-2 t c = omega (arith, few-later t (goal.at.resolve-overflow_add-result-2 t c).After-walk-later, one_rejected c.args.v)
+resolve-overflow_add-result-2 t c = omega (arith, few_later t (goal.at.resolve-overflow_add-result-2 t c).After-walk-later, one_rejected c.args.v)
 
 pub resolve-returns : goal.resolve-returns
 resolve-returns t c up last =
@@ -55,7 +55,7 @@ walk_turn t c up last =
     let few = length_heads c.args.names.now c.args.bases.now c.args.updates.now in let e = c.loop-i.invariant.0 up last in search turn_is
 
 -- the site that voted
-walk-voted
+walk_voted
     : (t : ℕ) (c : walk-After-is_open t) (up : Bool) (last : ℕ)
     → site_of up last c.loop-i.stamps c.loop-i.values
     (notes_from c.cast_vote.new.votes c.leave_queue-waiting.new.queue c.leave_queue-waiting.result)
@@ -63,7 +63,7 @@ walk-voted
     ≡ voted_from_queue c.args.me
     (site_of up last c.loop-i.stamps c.loop-i.values (notes_from c.loop-i.votes c.loop-i.queue c.loop-i.waiting) c.loop-i.oks c.loop-i.others)
     c.loop-i.i c.queued_at-p.result c.mark_of.result
-walk-voted t c up last =
+walk_voted t c up last =
     let l = c.loop-i in
     let k = c.cast_vote in
     voted_rows up last _ _ l.votes l.queue l.waiting l.oks l.others c.args.me _ _ _ k.new.votes (c.leave_queue-waiting.ensures.count, c.leave_queue-waiting.ensures.places) k.ensures.said k.ensures.oks k.ensures.others
@@ -75,14 +75,14 @@ walk-loop-i-preserved-then-is_deferral t c =
 pub walk-returns-then-not-is_open : goal.walk-returns-then-not-is_open
 walk-returns-then-not-is_open t c up last =
     let v = goal.at.walk-returns-then-not-is_open t c in
-    rule_turn (walk_turn t v.After-consider_at-o up last) (walk-voted t v.After-is_open up last) c.mark_of.ensures c.is_deferral.ensures
+    rule_turn (walk_turn t v.After-consider_at-o up last) (walk_voted t v.After-is_open up last) c.mark_of.ensures c.is_deferral.ensures
     c.if-is_deferral.false c.verdict_due-v.ensures c.is_open.ensures (ap not c.if-not-is_open.true) (c.resolve.ensures up last)
 
 pub walk-loop-i-preserved : goal.walk-loop-i-preserved
 walk-loop-i-preserved t c =
     let v = goal.at.walk-loop-i-preserved t c in (
       λ up last.
-          vote_turn (walk_turn t v.After-consider_at-o up last) (walk-voted t v.After-is_open up last) c.mark_of.ensures c.is_deferral.ensures
+          vote_turn (walk_turn t v.After-consider_at-o up last) (walk_voted t v.After-is_open up last) c.mark_of.ensures c.is_deferral.ensures
           c.if-is_deferral.false c.verdict_due-v.ensures c.is_open.ensures (ap not c.if-not-is_open.false),
       le_trans (fewer_than c.leave_queue-waiting.ensures.count) c.loop-i.invariant.1,
     )
