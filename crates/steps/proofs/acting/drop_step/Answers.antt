@@ -4,7 +4,6 @@ use Rattle.record.specs.Records.{step_from}
 use Rattle.steps.proofs.Arms.{drop_asked, drop_refused, drop_end, place_given, used_there, long_put}
 use Rattle.steps.specs.Opened.{message_rows}
 use Rattle.table.specs.Fresh.{blank_message}
-use borrow.Author.Rules.{rules}
 use mathlib.Core.Path.{refl, sym, ◌∙◌}
 use Rattle.steps.proofs.acting.drop_step.Goals as goal
 

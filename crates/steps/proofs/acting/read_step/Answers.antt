@@ -2,7 +2,6 @@
 use Rattle.record.specs.Records.{step_from}
 use Rattle.steps.proofs.Arms.{read_arm}
 use Rattle.steps.specs.Opened.{site_rows}
-use borrow.Author.Rules.{rules}
 use Rattle.steps.proofs.acting.read_step.Goals as goal
 
 pub returns : goal.returns

@@ -3,9 +3,7 @@ use Rattle.kit.proofs.Changes.{length_changed}
 use Rattle.record.specs.Records.{step_from}
 use Rattle.steps.proofs.Arms.{retire_asked, retire_none, retire_refused, retire_end, long_stored}
 use Rattle.steps.specs.Opened.{site_rows, request_rows, message_rows}
-use borrow.Author.Rules.{rules}
-use lib.ListN.{length-set}
-use mathlib.Core.Path.{refl, sym, ap, ◌∙◌}
+use mathlib.Core.Path.{refl, sym, ◌∙◌}
 use Rattle.steps.proofs.acting.retire_step.Goals as goal
 
 pub returns-then-p-eq16 : goal.returns-then-p-eq16
