@@ -1,9 +1,9 @@
 -- Where no number applies to a step, what each number speaks of is not so.
-use mathlib.Core.Path.{◌≡◌, refl, sym, ap, ◌∙◌}
+use mathlib.Core.Path.{◌≡◌, refl, sym, ◌∙◌}
 use mathlib.Core.Bool.{Bool, true, false, not, ◌&&◌, ◌||◌, cond}
 use Prim.Native.Nat.{ℕ, suc, ◌-◌, ◌≤◌, ◌<◌}
 use native.Mathlib.Omega.{arith}
-use borrow.Author.Tests.{eqb-true, eqb-false, leb-true, leb-false, ltb-true, not-true, not-false, eq-eqb, lt-ltb}
+use borrow.Author.Tests.{eqb-true, eqb-false, leb-true, ltb-true, not-true, not-false, eq-eqb, lt-ltb}
 use lib.Dec.{eqb, leb, ltb}
 use Rattle.kit.specs.Range.{any, first}
 use Rattle.kit.proofs.Bools.{clash, and_left, and_right, or_left, or_right, by_test, by_eq}

@@ -17,7 +17,7 @@ use Rattle.plans.proofs.Found.{within_low}
 use Rattle.plans.proofs.Posting.{message_put, free_message_is, free_taken, free_given}
 use Rattle.plans.proofs.Opening.{sites_up, sites_forgot, held_back_is}
 use Rattle.plans.specs.Answers.{refusal, results}
-use Rattle.plans.specs.Changes.{message_of, stored, votes_forgotten, voters_forgotten}
+use Rattle.plans.specs.Changes.{message_of, votes_forgotten, voters_forgotten}
 use Rattle.plans.specs.Letters.{letter_of, is_letter, free_set, without_place, with_place}
 use Rattle.plans.specs.Pieces.{within, site_index, place_in, free_message_in, no_such_digit, no_message_there, tell_number_of, drop_number_of, down_number_of, up_number_of, held_back_by, retire_number_of, read_number_of, read_plan}
 use Rattle.plans.specs.declared.answer.Answer.{Answer}
@@ -34,9 +34,7 @@ use Rattle.vote.specs.declared.data.Site.{Site}
 use Rattle.vote.specs.declared.data.Vote.{Vote}
 use Rattle.walk.proofs.TakenApart.{parts_set, length_row}
 use Rattle.walk.specs.Parts.{with_row, stored_row}
-use Rattle.walk.specs.Walking as walking
 use Rattle.walk.specs.Walking.{accepts, rejects}
-use Rattle.walk.specs.declared.walking.Settled as code
 use Rattle.steps.specs.Answers.{Done, stepped_as}
 use Rattle.steps.specs.Numbers.{cannot_tell, no_message_at, cannot_retire, tell_number, drop_number, down_number, up_number, retire_number, read_number}
 use Rattle.steps.specs.Opened.{SiteRows, RequestRows, MessageRows, table_from, site_rows, request_rows, message_rows, LongRequests, LongMessages}

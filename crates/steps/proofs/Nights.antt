@@ -1,28 +1,26 @@
 -- A night printed buffer after buffer is the whole night, however the input is cut and however much room the output has.
-use mathlib.Core.Path.{◌≡◌, refl, sym, ap, ap₂, ◌∙◌}
-use mathlib.Core.Bool.{Bool, true, false, ◌&&◌, cond}
+use mathlib.Core.Path.{◌≡◌, refl, sym, ap, ◌∙◌}
+use mathlib.Core.Bool.{false, ◌&&◌}
 use mathlib.Core.List.{List, [], ◌∷◌, ◌++◌, append-nil, append_assoc}
-use Prim.Native.Nat.{ℕ, zero, suc, ◌+◌, ◌-◌, ◌≤◌, ◌<◌}
+use Prim.Native.Nat.{ℕ, zero, suc, ◌+◌, ◌-◌, ◌≤◌}
 use native.Mathlib.Omega.{arith}
 use borrow.Author.Tests.{eq-eqb}
 use lib.Dec.{eqb, leb}
-use lib.ListN.{length, drop, length-drop}
+use lib.ListN.{length, drop}
 use lib.Seq.{drop-append-le, drop-drop}
 use Rattle.kit.proofs.Bools.{by_test, of_cond}
 use Rattle.record.specs.Records.{is_cut, record_of}
 use Rattle.record.specs.declared.Record.{Record}
 use Rattle.record.proofs.Laws.{next_whole, whole_next, next_inside, more_bytes}
 use Rattle.table.specs.Fresh.{fresh_for}
-use Rattle.table.specs.Sound.{sound_table}
 use Rattle.table.specs.declared.data.Table.{Table}
 use Rattle.table.specs.declared.fresh.FreshTable.{FreshTable}
 use Rattle.table.specs.Meaning.{ShapedTable}
 use Rattle.table.proofs.FreshSound.{fresh_shaped, fresh_answers}
 use Rattle.table.proofs.Meaning.{means, meant}
-use Rattle.steps.specs.Answers.{refused_as}
-use Rattle.steps.specs.Night.{Parted, parted, before, answered, answered_on, line_for, last_line, lines_of, lines_from, night_of, Part, no_part, one_part, is_full, part_from, Buffered}
+use Rattle.steps.specs.Night.{answered, answered_on, line_for, lines_of, lines_from, night_of, Part, no_part, one_part, is_full, part_from, Buffered}
 use Rattle.steps.specs.Night.Buffered.{reads, runs, ends}
-use Rattle.steps.specs.Steps.{advanced, stepped}
+use Rattle.steps.specs.Steps.{stepped}
 use Rattle.steps.specs.declared.answer.Stepped.{Stepped}
 use Rattle.steps.proofs.Running.{short_cut, rest_shorter, parted_cut, parted_whole, part_cut, part_full, part_taken}
 use Rattle.steps.proofs.Upkeep.{Well, stepped_well}

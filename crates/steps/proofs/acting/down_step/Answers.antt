@@ -2,7 +2,6 @@
 use Rattle.record.specs.Records.{step_from}
 use Rattle.steps.proofs.Arms.{down_refused, down_done}
 use Rattle.steps.specs.Opened.{site_rows}
-use borrow.Author.Rules.{rules}
 use lib.ListN.{length-set}
 use mathlib.Core.Bool.{false}
 use mathlib.Core.Path.{◌∙◌}

@@ -2,7 +2,6 @@
 use Rattle.record.specs.Records.{step_from}
 use Rattle.steps.proofs.Arms.{up_refused, up_done}
 use Rattle.steps.specs.Opened.{site_rows}
-use borrow.Author.Rules.{rules}
 use lib.ListN.{length-set}
 use mathlib.Core.Bool.{true}
 use mathlib.Core.Path.{◌∙◌}

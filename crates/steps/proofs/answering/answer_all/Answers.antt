@@ -1,7 +1,6 @@
 -- `steps::answering::answer_all` meets its contract: each turn takes the step of a record on the rows of the table; what is left to do behind
 -- the records that were answered is all that was to do.
-use Prim.Native.Nat.{◌+◌, ◌-◌, ◌≤◌, ◌<◌}
-use mathlib.Core.Logic.{⊎_elim}
+use Prim.Native.Nat.{◌+◌, ◌-◌, ◌<◌}
 use mathlib.Core.Path.{◌≡◌, refl, sym, ◌∙◌}
 use native.Mathlib.Omega.{arith}
 use borrow.Author.Rules.{rules}
@@ -14,7 +13,7 @@ use Rattle.steps.specs.Night.{answered_on, part_from}
 use Rattle.steps.specs.Opened.{table_from, site_rows, request_rows, message_rows, LongRows}
 use Rattle.steps.proofs.Opening.{opening}
 use Rattle.steps.proofs.Running.{Going}
-use Rattle.steps.proofs.Turning.{Turning, Replied, turning_start, turning_over, turning_room, turning_number, turning_refused, turning_stepped, turning_wrote, turning_on, digits_start, replied_there}
+use Rattle.steps.proofs.Turning.{Replied, turning_start, turning_over, turning_room, turning_number, turning_refused, turning_stepped, turning_wrote, turning_on, digits_start, replied_there}
 use Rattle.steps.proofs.answering.answer_all.Goals as goal
 use Rattle.steps.proofs.answering.answer_all.Goals.{After-told_others_of-told_others, At-loop-stamps, After-bytes_in-room, After-write_answer-to, then-number-eq0, then-r-eq1, else-r-eq1, else-number-eq0}
 

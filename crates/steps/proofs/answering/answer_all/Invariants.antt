@@ -1,20 +1,8 @@
 -- `steps::answering::answer_all` meets its contract: each turn takes the step of a record on the rows of the table; what is left to do behind
 -- the records that were answered is all that was to do.
-use Prim.Native.Nat.{◌+◌, ◌-◌, ◌≤◌, ◌<◌}
-use mathlib.Core.Logic.{⊎_elim}
-use mathlib.Core.Path.{◌≡◌, refl, sym, ◌∙◌}
-use native.Mathlib.Omega.{arith}
-use borrow.Author.Rules.{rules}
-use lib.ListN.{length, take, drop}
-use Rattle.kit.proofs.Listings.{length_mapped}
-use Rattle.record.specs.Records.{record_of}
-use Rattle.record.specs.declared.Record.{Record}
-use Rattle.table.specs.declared.data.Table.{Table}
-use Rattle.steps.specs.Night.{answered_on, part_from}
-use Rattle.steps.specs.Opened.{table_from, site_rows, request_rows, message_rows, LongRows}
-use Rattle.steps.proofs.Opening.{opening}
-use Rattle.steps.proofs.Running.{Going}
-use Rattle.steps.proofs.Turning.{Turning, Replied, turning_start, turning_over, turning_room, turning_number, turning_refused, turning_stepped, turning_wrote, turning_on, digits_start, replied_there}
+use Prim.Native.Nat.{◌-◌}
+use Rattle.steps.specs.Opened.{table_from, site_rows, request_rows, message_rows}
+use Rattle.steps.proofs.Turning.{Turning}
 use Rattle.steps.proofs.answering.answer_all.Given as goal
 
 abbrev pub invariant-loop-stamps : goal.invariant-loop-stamps

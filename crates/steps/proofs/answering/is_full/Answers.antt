@@ -1,7 +1,5 @@
 -- `steps::answering::is_full` meets its contract.
-use borrow.Author.Rules.{rules}
-use borrow.Author.Tests.{lt-ltb, le-ltb, le-leb, lt-leb}
-use mathlib.Core.Path.{◌≡◌, refl}
+use borrow.Author.Tests.{lt-ltb, le-ltb}
 use Rattle.steps.proofs.answering.is_full.Goals as goal
 
 pub returns-then-room-lt89 : goal.returns-then-room-lt89

@@ -1,5 +1,4 @@
 -- `steps::answering::read_next` meets its contract: left unread, or read.
-use borrow.Author.Rules.{rules}
 use mathlib.Core.Path.{sym, ◌∙◌}
 use Rattle.steps.proofs.answering.read_next.Goals as goal
 

@@ -1,5 +1,4 @@
 -- `steps::run::run` meets its contract: not sound, or the records of the buffer.
-use borrow.Author.Rules.{rules}
 use Rattle.steps.proofs.Advancing.{sound_count}
 use Rattle.steps.proofs.Running.{run_unsound, run_sound}
 use Rattle.steps.proofs.run.run.Goals as goal
