@@ -2,7 +2,7 @@
 use Prim.Native.Nat.{ℕ, ◌≤◌}
 use native.Mathlib.Omega.{arith}
 use borrow.Author.Tests.{le-leb}
-use mathlib.Core.List.{List, [], ◌∷◌, ◌++◌, map}
+use mathlib.Core.List.{List, [], ◌∷◌}
 use mathlib.Core.Path.{◌≡◌, refl, ap}
 use Rattle.kit.specs.Lists.{listed, changed, without}
 use Rattle.kit.specs.Range.{any, all, first, largest, passing}
@@ -21,7 +21,6 @@ use Rattle.vote.specs.Requests.{covers, conflicts}
 use Rattle.vote.specs.Verdicts.{verdict_due, writes_item, written_up_to, written_site, released, noted, decided, ruled}
 use Rattle.vote.specs.Voters.{knows, voters_of, only_voter, join_up_to, join_voters, has_voter, voter_list, voters_in, voters_known, clear_up_to, clear_voters, no_row, no_known}
 use Rattle.vote.specs.Voting.{marked, counts_itself, voted, deferred, kept_outcome, voted_from_queue}
-use Rattle.vote.specs.declared.data.Vote.{Vote}
 use Rattle.walk.specs.Hearing.{settled, taken_up, heard, received}
 use Rattle.walk.specs.Walking.{looked_over, walk_up_to, walked, accepts, rejects}
 use Rattle.table.specs.Fresh.{blank_site, blank_message, blank_table, fresh_for}
@@ -32,9 +31,9 @@ use Rattle.table.proofs.Meaning.{meant}
 use Rattle.steps.specs.Numbers.{free_place, free_message, place_of, cannot_tell, no_message_at, begin_number, tell_number, deliver_number}
 use Rattle.steps.specs.Steps.{stepped, entered, begun, told, delivered, advanced}
 use Rattle.steps.proofs.Upkeep.{Well, advanced_well}
-use Rattle.demand.specs.Examples.{Standing, evening, played}
+use Rattle.demand.specs.Examples.{Standing, evening}
 use Rattle.demand.proofs.Examples.{sure_all, sure}
-use Rattle.cases.specs.Cases.{EveryRow, bench_cases, table_after, answers_from, answers_to, issues, numbers, verdict_counts, all_say, copy_at, second_comes, first_comes, then_second, that_verdict, u_spreads, a_spreads, word_comes_late, verdict_comes_late, begins_wide, begins_narrow}
+use Rattle.cases.specs.Cases.{EveryRow, bench_cases, table_after, answers_from, answers_to, issues, numbers, verdict_counts, all_say, copy_at, second_comes, first_comes, then_second, u_spreads, a_spreads, word_comes_late, verdict_comes_late, begins_wide, begins_narrow}
 
 -- ---- answers on a sound table, without its test
 

@@ -3,8 +3,8 @@ use mathlib.Core.Path.{◌≡◌, refl, sym, ap, ◌∙◌, subst}
 use mathlib.Core.Bool.{true, cond}
 use mathlib.Core.List.Memᴰ
 use mathlib.Core.List.{[], ◌++◌}
-use mathlib.Core.Logic.{◌⊎◌, ⊎_elim}
-use Prim.Native.Nat.{ℕ, ◌-◌, ◌^◌, ◌≤◌, ◌<◌}
+use mathlib.Core.Logic.{⊎_elim}
+use Prim.Native.Nat.{ℕ, ◌^◌, ◌≤◌, ◌<◌}
 use native.Mathlib.Omega.{arith}
 use borrow.Author.Tests.{le-leb, eqb-true}
 use lib.Dec.{eqb}
@@ -42,7 +42,7 @@ use Rattle.tied.specs.Views.{request_of, view_of}
 use Rattle.tied.proofs.Tables.{fresh_tied}
 use Rattle.tied.proofs.Words.{covers_means, concurrent_means, has_member, has_of, place_items}
 use Rattle.demand.specs.Nights.{began, ruled, History, in_begin, in_deliver, happened, Night, fresh, after}
-use Rattle.demand.specs.Promises.{AcceptedAt, Accepted, Newest, blank, reading, Promise}
+use Rattle.demand.specs.Promises.{AcceptedAt, Newest, blank, reading, Promise}
 use Rattle.demand.proofs.Histories.{ledger_of, ledger_append, accept_from, accept_in, reject_in}
 use Rattle.demand.proofs.Names.{Begun, one_begun, begun_next, ruled_held}
 use Rattle.demand.proofs.Steps.{advanced_goes}
