@@ -1,5 +1,4 @@
 -- `house::vundrelt_read_site_file` meets its contract: it hands out what the reader answers, part by part.
-use borrow.Author.Rules.{rules}
 use mathlib.Core.Path.{ap}
 use Rattle.sitefile.specs.declared.SiteFile.{SiteFile}
 use Rattle.house.proofs.vundrelt_read_site_file.Goals as goal

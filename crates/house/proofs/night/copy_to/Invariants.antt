@@ -1,11 +1,7 @@
 -- `house::night::copy_to` meets its contract. The invariant: the first k bytes stand in the buffer.
-use mathlib.Core.Path.{sym}
 use Prim.Native.Nat.{◌-◌}
-use borrow.Author.Rules.{rules}
 use lib.ListN.{length}
-use Rattle.kit.proofs.Copies.{Copied, copied_start, copied_more, copied_whole}
-use Rattle.kit.proofs.Fields.{ends_in, ends_out}
-use Rattle.kit.proofs.Puts.{placed_out}
+use Rattle.kit.proofs.Copies.{Copied}
 use Rattle.house.proofs.night.copy_to.Given as goal
 
 abbrev pub invariant-loop-k : goal.invariant-loop-k

@@ -1,5 +1,4 @@
 -- `house::night::last_length` meets its contract.
-use borrow.Author.Rules.{rules}
 use Rattle.house.proofs.Rooms.{last_none, last_some}
 use Rattle.house.proofs.night.last_length.Goals as goal
 

@@ -1,5 +1,4 @@
 -- `house::night::night_length` meets its contract.
-use borrow.Author.Rules.{rules}
 use Rattle.house.proofs.Whole.{length_of}
 use Rattle.house.proofs.night.night_length.Goals as goal
 

@@ -1,5 +1,4 @@
 -- `house::night::print_night` meets its contract: refused before anything is written, or all of it.
--- what is measured is the room of the output
 use borrow.Author.Rules.{rules}
 use mathlib.Core.Path.{◌≡◌}
 use lib.ListN.{length}
@@ -9,6 +8,7 @@ use Rattle.house.proofs.Whole.{left_inside, fits_in, print_refused, print_done}
 use Rattle.house.proofs.night.print_night.Goals as goal
 use Rattle.house.proofs.night.print_night.Goals.{After-room_after_night-r}
 
+-- what is measured is the room of the output
 measured
     : (c : After-room_after_night-r)
     → let a = c.args in

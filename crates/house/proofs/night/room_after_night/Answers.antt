@@ -1,5 +1,4 @@
 -- `house::night::room_after_night` meets its contract: by the night's first byte.
-use borrow.Author.Rules.{rules}
 use Rattle.house.proofs.Whole.{night_none, night_refused, night_runs, night_well, room_of, room_as}
 use Rattle.house.proofs.night.room_after_night.Goals as goal
 

@@ -1,6 +1,4 @@
 -- `house::night::room_after_records` meets its contract: what is left of the room, for the lines that are left, is all of it for all lines.
--- a run that took records
-use borrow.Author.Rules.{rules}
 use mathlib.Core.Path.{refl}
 use Prim.Native.Nat.{◌+◌, ◌-◌, ◌<◌}
 use native.Mathlib.Omega.{arith}
@@ -10,15 +8,16 @@ use Rattle.house.proofs.Going.{Counting, counting_start, counting_end, counting_
 use Rattle.house.proofs.night.room_after_records.Goals as goal
 use Rattle.house.proofs.night.room_after_records.Goals.{Else-left-r}
 
+-- a run that took records
 turn
     : (c : Else-left-r)
     → let loop = c.loop-buf in
     let r : Ran = c.run-r.result in
     Counting c.args.fresh c.args.input.now c.args.room (length c.args.input.now) r.table
-    c.run-r.new.1.1.1.0 (loop.at + r.taken) (loop.left - r.written) r.next
+    c.run-r.new.output (loop.at + r.taken) (loop.left - r.written) r.next
 turn c =
     let run = c.run-r in
-    counting_on c.loop-buf.invariant run.ensures.0 c.if-left-r.false run.auto.1.1.1.0 run.ensures.1.1.0
+    counting_on c.loop-buf.invariant run.ensures.answer c.if-left-r.false run.auto.output run.ensures.inside.0
 
 pub loop-buf-init : goal.loop-buf-init
 loop-buf-init c = let h : length c.args.input.now < 9223372036854775808 = omega (arith, c.well_formed.1.0.1) in

@@ -1,12 +1,6 @@
 -- `house::night::room_after_records` meets its contract: what is left of the room, for the lines that are left, is all of it for all lines.
--- a run that took records
-use borrow.Author.Rules.{rules}
-use mathlib.Core.Path.{refl}
-use Prim.Native.Nat.{◌+◌, ◌-◌, ◌<◌}
-use native.Mathlib.Omega.{arith}
-use lib.ListN.{length}
-use Rattle.steps.specs.declared.run.Ran.{Ran}
-use Rattle.house.proofs.Going.{Counting, counting_start, counting_end, counting_out, counting_on}
+use Prim.Native.Nat.{◌-◌}
+use Rattle.house.proofs.Going.{Counting}
 use Rattle.house.proofs.night.room_after_records.Given as goal
 
 abbrev pub invariant-loop-buf : goal.invariant-loop-buf

@@ -1,5 +1,4 @@
 -- `house::night::write_last` meets its contract.
-use borrow.Author.Rules.{rules}
 use mathlib.Core.Path.{sym}
 use Rattle.house.proofs.Rooms.{placed_none, last_none, last_some}
 use Rattle.house.proofs.night.write_last.Goals as goal

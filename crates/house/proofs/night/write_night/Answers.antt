@@ -1,5 +1,4 @@
 -- `house::night::write_night` meets its contract: by the night's first byte.
-use borrow.Author.Rules.{rules}
 use Rattle.house.proofs.Whole.{night_none, night_refused, night_runs, night_well, line_of, lines_as}
 use Rattle.house.proofs.night.write_night.Goals as goal
 

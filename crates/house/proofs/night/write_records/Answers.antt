@@ -1,9 +1,7 @@
 -- `house::night::write_records` meets its contract: what is written, and the lines that are left behind it, are all lines.
--- a run writes inside its buffer
--- a run that took records, and their lines copied
 use borrow.Author.Rules.{rules}
 use mathlib.Core.Path.{refl, sym, ◌∙◌}
-use Prim.Native.Nat.{◌+◌, ◌-◌, ◌≤◌, ◌<◌}
+use Prim.Native.Nat.{◌+◌, ◌≤◌, ◌<◌}
 use native.Mathlib.Omega.{arith}
 use lib.ListN.{length}
 use lib.Seq.{length-take-le}
@@ -12,18 +10,20 @@ use Rattle.house.proofs.Going.{Writing, writing_start, writing_end, writing_on}
 use Rattle.house.proofs.night.write_records.Goals as goal
 use Rattle.house.proofs.night.write_records.Goals.{After-slice_known-in-loop-buf-1, Else-r-eq0}
 
-inside : (c : Else-r-eq0) → c.run-r.result.written ≤ length c.run-r.new.1.1.1.0
-inside c = let run = c.run-r in omega (arith, run.auto.1.1.1.0, run.ensures.1.1.1)
+-- a run writes inside its buffer
+inside : (c : Else-r-eq0) → c.run-r.result.written ≤ length c.run-r.new.output
+inside c = let run = c.run-r in omega (arith, run.auto.output, run.ensures.inside.1)
 
+-- a run that took records, and their lines copied
 turn
     : (c : After-slice_known-in-loop-buf-1)
     → let loop = c.loop-buf in
     let r : Ran = c.run-r.result in
     Writing c.args.fresh c.args.input.now c.args.output.now (length c.args.input.now) r.table
-    c.run-r.new.1.1.1.0 c.copy_to.new.0 (loop.at + r.taken) (loop.to + r.written) r.next
+    c.run-r.new.output c.copy_to.new.d (loop.at + r.taken) (loop.to + r.written) r.next
 turn c =
     let run = c.run-r in
-    writing_on c.loop-buf.invariant run.ensures.0 run.ensures.1.0 run.auto.1.1.1.0 run.ensures.1.1.0
+    writing_on c.loop-buf.invariant run.ensures.answer run.ensures.bytes run.auto.output run.ensures.inside.0
     c.copy_to.ensures
 
 pub loop-buf-init : goal.loop-buf-init
@@ -46,7 +46,7 @@ pub slice_bounds-write_last-start : goal.slice_bounds-write_last-start
 slice_bounds-write_last-start c = c.loop-buf.invariant.gone.inside
 
 pub shape_of-output-then-r-eq0 : goal.shape_of-output-then-r-eq0
-shape_of-output-then-r-eq0 c = c.write_last.auto.0 ∙ c.loop-buf.invariant.same
+shape_of-output-then-r-eq0 c = c.write_last.auto.output ∙ c.loop-buf.invariant.same
 
 pub returns-then-r-eq0 : goal.returns-then-r-eq0
 returns-then-r-eq0 c = writing_end c.loop-buf.invariant c.run-r.ensures.answer c.if-r-eq0.true
