@@ -4,9 +4,17 @@ use Rattle.record.specs.Records.{step_from}
 use Rattle.steps.proofs.Advancing.{code_1, code_2, code_3, code_4, code_5, code_6, code_7, code_8, code_none}
 use Rattle.steps.specs.Opened.{table_from, site_rows, request_rows, message_rows}
 use Rattle.steps.specs.declared.answer.Stepped.{Stepped}
-use mathlib.Core.Path.{ap}
 use native.Mathlib.Omega.{arith}
 use Rattle.steps.proofs.acting.take_step.Goals as goal
+use Rattle.steps.proofs.acting.take_step.Goals.{After-deliver_step, After-drop_step}
+use mathlib.Core.Path.{◌≡◌, ap}
+
+-- a message is delivered where the code is 3, and lost where it is 4
+is_delivery : (c : After-deliver_step) → c.args.a.code ≡ 3
+is_delivery c = omega arith
+
+is_loss : (c : After-drop_step) → c.args.a.code ≡ 4
+is_loss c = omega arith
 
 pub begin_step-requires : goal.begin_step-requires
 begin_step-requires c = let l = c.requires.long in record { few = c.requires.few; long = (l.lasts, (l.sites, l.requests)) }
@@ -48,13 +56,13 @@ pub returns-in-3 : goal.returns-in-3
 returns-in-3 c = let x = c.args in
     let l = c.requires.long in
     let e = c.deliver_step.ensures in
-    record { table = code_3 _ (step_from x.a x.stamps.now x.values.now) c.in-3.is (e.table x.stamps.now x.values.now x.lasts.now); free = c.requires.free; long = record { ups = l.ups; lasts = l.lasts; sites = e.long; requests = l.requests; messages = l.messages } }
+    record { table = code_3 _ (step_from x.a x.stamps.now x.values.now) (is_delivery (goal.at.returns-in-3 c).After-deliver_step) (e.table x.stamps.now x.values.now x.lasts.now); free = c.requires.free; long = record { ups = l.ups; lasts = l.lasts; sites = e.long; requests = l.requests; messages = l.messages } }
 
 pub returns-in-4 : goal.returns-in-4
 returns-in-4 c = let x = c.args in
     let l = c.requires.long in
     let e = c.drop_step.ensures in
-    record { table = code_4 _ (step_from x.a x.stamps.now x.values.now) c.in-4.is (e.table x.n x.stamps.now x.values.now (site_rows x.ups.now x.lasts.now x.held_stamps.now x.held_values.now x.votes.now x.queues.now x.waitings.now x.oks.now x.others.now) (request_rows x.names.now x.bases.now x.updates.now x.based.now x.news.now)); free = e.free; long = record { ups = l.ups; lasts = l.lasts; sites = l.sites; requests = l.requests; messages = e.long } }
+    record { table = code_4 _ (step_from x.a x.stamps.now x.values.now) (is_loss (goal.at.returns-in-4 c).After-drop_step) (e.table x.n x.stamps.now x.values.now (site_rows x.ups.now x.lasts.now x.held_stamps.now x.held_values.now x.votes.now x.queues.now x.waitings.now x.oks.now x.others.now) (request_rows x.names.now x.bases.now x.updates.now x.based.now x.news.now)); free = e.free; long = record { ups = l.ups; lasts = l.lasts; sites = l.sites; requests = l.requests; messages = e.long } }
 
 pub returns-in-5 : goal.returns-in-5
 returns-in-5 c = let x = c.args in
