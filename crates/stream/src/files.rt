@@ -31,12 +31,12 @@ fn room() -> [u8; 248]
 
 // The file of the copy of site k, whose digit is k + 1, at the front of a buffer; its length. The copy of a sound table is never refused.
 fn write_copy(t: Table, k: u8, buffer: &mut [u8]) -> usize
-    requires t_value { sound_table t ≡ true }
-    requires k_lt_count { k < t.count }
-    requires count_bound { t.count ≤ 7 }
-    requires in_bounds { 248 ≤ length buffer.old }
-    ensures prefix_len { IsPrefixLen result buffer.new }
-    ensures buffer_after { take result buffer.new ≡ file_of (k + 1) (site_at t k).stamps (site_at t k).values }
+    requires sound { sound_table t ≡ true }
+    requires used { k < t.count }
+    requires few { t.count ≤ 7 }
+    requires room { 248 ≤ length buffer.old }
+    ensures inside { IsPrefixLen result buffer.new }
+    ensures file { take result buffer.new ≡ file_of (k + 1) (site_at t k).stamps (site_at t k).values }
 {
     let s = t.sites[index(k)];
     let stamps = s.stamps;
@@ -56,9 +56,9 @@ fn cannot_write(errors: &impl Eprint, name: &str) {
 
 // Writes the file of site k, or says that it cannot.
 fn save_copy(rt: HostRuntime, t: Table, k: u8)
-    requires t_value { sound_table t ≡ true }
-    requires k_lt_count { k < t.count }
-    requires count_bound { t.count ≤ 7 }
+    requires sound { sound_table t ≡ true }
+    requires used { k < t.count }
+    requires few { t.count ≤ 7 }
 {
     let name = NAMES[index(k)];
     let mut buffer = room();
@@ -70,8 +70,8 @@ fn save_copy(rt: HostRuntime, t: Table, k: u8)
 
 // Writes the file of each site.
 pub(crate) fn save_copies(rt: HostRuntime, t: Table)
-    requires t_value { sound_table t ≡ true }
-    requires count_bound { t.count ≤ 7 }
+    requires sound { sound_table t ≡ true }
+    requires few { t.count ≤ 7 }
 {
     let n = t.count;
     for k in 0..n {

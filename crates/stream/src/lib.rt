@@ -44,8 +44,8 @@ fn waiting_room() -> [u8; 131072]
 
 // The bytes from one place to another moved to the front; how many they are.
 fn move_up(buf: &mut [u8], at: usize, end: usize) -> usize
-    requires at_le_end { at ≤ end }
-    requires end_in_bounds { end ≤ length buf.old }
+    requires in_order { at ≤ end }
+    requires inside { end ≤ length buf.old }
     ensures { result ≤ length buf.new }
 {
     if at == 0 {
@@ -162,8 +162,8 @@ fn take_turn(input: Stdin, output: Stdout, s: Standing, buf: &mut [u8], out: &mu
 
 // Answers record after record until the input ends, and then the record that is cut there, if one is.
 fn answer_all(input: Stdin, output: Stdout, t: Table) -> Table
-    requires t_value { sound_table t ≡ true }
-    requires shaped_table { ShapedTable t }
+    requires sound { sound_table t ≡ true }
+    requires shaped { ShapedTable t }
     ensures { sound_table result ≡ true }
 {
     let mut buf = waiting_room();

@@ -87,8 +87,8 @@ pub struct Marked {
 
 // The marks of site k put among those of all sites: which are OK, and which DR or REJ.
 fn put_oks(oks: &mut [bool; 112], k: usize, votes: [Vote; 16])
-    requires k_bound { k < 7 }
-    requires oks_len { length oks.old ≡ 112 }
+    requires site { k < 7 }
+    requires row { length oks.old ≡ 112 }
     ensures { oks.new ≡ marks_put is_ok_vote k votes oks.old }
 {
     for p in 0..16 {
@@ -99,8 +99,8 @@ fn put_oks(oks: &mut [bool; 112], k: usize, votes: [Vote; 16])
 }
 
 fn put_others(others: &mut [bool; 112], k: usize, votes: [Vote; 16])
-    requires k_bound { k < 7 }
-    requires others_len { length others.old ≡ 112 }
+    requires site { k < 7 }
+    requires row { length others.old ≡ 112 }
     ensures { others.new ≡ marks_put is_other k votes others.old }
 {
     for p in 0..16 {

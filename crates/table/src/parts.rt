@@ -307,8 +307,8 @@ fn is_holding_sound<'a, 'b>(
     oks: &'b [bool; 112],
     others: &'b [bool; 112],
 ) -> bool
-    requires p_value { are_among (voters_of oks.now p) (voters_of agreed.now p) ≡ true }
-    requires p_value_2 { are_among (voters_of others.now p) (voters_of opposed.now p) ≡ true }
+    requires oks_marked { are_among (voters_of oks.now p) (voters_of agreed.now p) ≡ true }
+    requires others_marked { are_among (voters_of others.now p) (voters_of opposed.now p) ≡ true }
     ensures { result ≡ holding_sound n me (record { oks = voters_of agreed.now p; others = voters_of opposed.now p }) v (voters_of oks.entry.now p) (voters_of others.now p) }
 {
     let mark = v.mark;
@@ -347,8 +347,8 @@ fn is_place_held<'a, 'b>(
     oks: &'b [bool; 112],
     others: &'b [bool; 112],
 ) -> bool
-    requires p_value { are_among (voters_of oks.now p) (voters_of agreed.now p) ≡ true }
-    requires p_value_2 { are_among (voters_of others.now p) (voters_of opposed.now p) ≡ true }
+    requires oks_marked { are_among (voters_of oks.now p) (voters_of agreed.now p) ≡ true }
+    requires others_marked { are_among (voters_of others.now p) (voters_of opposed.now p) ≡ true }
     ensures { result ≡ (holding_sound n me (record { oks = voters_of agreed.now p; others = voters_of opposed.now p }) v (voters_of oks.entry.now p) (voters_of others.now p) && implies (eqb stamp 0) (blank_vote v && (no_voters (voters_of oks.entry.now p) && no_voters (voters_of others.now p)))) }
 {
     if !is_holding_sound(n, me, v, p, agreed, opposed, oks, others) {
@@ -371,8 +371,8 @@ fn are_places_held<'a, 'b>(
     oks: &'b [bool; 112],
     others: &'b [bool; 112],
 ) -> bool
-    requires p_value { all 16 (λ p. are_among (voters_of oks.now p) (voters_of agreed.now p)) ≡ true }
-    requires p_value_2 { all 16 (λ p. are_among (voters_of others.now p) (voters_of opposed.now p)) ≡ true }
+    requires oks_marked { all 16 (λ p. are_among (voters_of oks.now p) (voters_of agreed.now p)) ≡ true }
+    requires others_marked { all 16 (λ p. are_among (voters_of others.now p) (voters_of opposed.now p)) ≡ true }
     ensures { result ≡ all 16 (λ p. holding_sound n me (record { oks = voters_of agreed.now p; others = voters_of opposed.now p }) (vote_at votes p) (voters_of oks.entry.now p) (voters_of others.now p) && implies (eqb (get_or stamps.now p 0) 0) (blank_vote (vote_at votes p) && (no_voters (voters_of oks.entry.now p) && no_voters (voters_of others.now p)))) }
 {
     for p in 0..16 {
@@ -451,9 +451,9 @@ fn is_content_right<'a>(
     opposing: &'a [u32; 16],
     m: Message,
 ) -> bool
-    requires p_bound { p < 16 }
-    requires agreeing_value { agreeing.now ≡ row_sets agreed.now }
-    requires opposing_value { opposing.now ≡ row_sets opposed.now }
+    requires place { p < 16 }
+    requires agreeing_sets { agreeing.now ≡ row_sets agreed.now }
+    requires opposing_sets { opposing.now ≡ row_sets opposed.now }
     ensures { result ≡ (are_among m.oks (voters_of agreed.now p) && (are_among m.others (voters_of opposed.now p) && backed_by n (record { oks = voters_of agreed.now p; others = voters_of opposed.now p }) m.verdict)) }
 {
     let at = kit::index(p);
@@ -479,8 +479,8 @@ pub(crate) fn is_message_sound<'a>(
     stamps: &'a [u64; 16],
     m: Message,
 ) -> bool
-    requires agreeing_value { agreeing.now ≡ row_sets agreed.now }
-    requires opposing_value { opposing.now ≡ row_sets opposed.now }
+    requires agreeing_sets { agreeing.now ≡ row_sets agreed.now }
+    requires opposing_sets { opposing.now ≡ row_sets opposed.now }
     ensures { result ≡ message_sound n (listed 16 (λ p. record { oks = voters_of agreed.now p; others = voters_of opposed.now p })) stamps.now m }
 {
     if !m.used {

@@ -3,4 +3,4 @@ use Rattle.stream.proofs.Laws.{begins}
 use Rattle.stream.proofs.answer_all.Goals as goal
 
 pub loop-init : goal.loop-init
-loop-init c = begins c.requires.t_value c.requires.shaped_table
+loop-init c = begins c.requires.sound c.requires.shaped

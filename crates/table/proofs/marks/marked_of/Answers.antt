@@ -9,10 +9,10 @@ pub loop-k-init : goal.loop-k-init
 loop-k-init c = search (gathered_none, arith)
 
 pub put_oks-requires : goal.put_oks-requires
-put_oks-requires c = record { k_bound = search (gathered_long, rules); oks_len = search (gathered_long, rules) }
+put_oks-requires c = record { site = search (gathered_long, rules); row = search (gathered_long, rules) }
 
 pub put_others-requires : goal.put_others-requires
-put_others-requires c = record { k_bound = search (gathered_long, rules); others_len = search (gathered_long, rules) }
+put_others-requires c = record { site = search (gathered_long, rules); row = search (gathered_long, rules) }
 
 pub loop-k-preserved : goal.loop-k-preserved
 loop-k-preserved c = search (gathered_site, arith)

@@ -23,7 +23,7 @@ pub overflow_cast-p : goal.overflow_cast-p
 overflow_cast-p c = search alls
 
 pub is_place_held-requires : goal.is_place_held-requires
-is_place_held-requires c = record { p_value = search (among_place, rules); p_value_2 = search (among_place, rules) }
+is_place_held-requires c = record { oks_marked = search (among_place, rules); others_marked = search (among_place, rules) }
 
 pub returns-then-not-is_place_held : goal.returns-then-not-is_place_held
 returns-then-not-is_place_held c = search alls

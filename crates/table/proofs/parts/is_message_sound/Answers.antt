@@ -55,7 +55,7 @@ unfolding message_sound
 returns-then-not-are_two_sites c = search (choices, refusals)
 
 pub is_content_right-requires : goal.is_content_right-requires
-is_content_right-requires c = record { p_bound = place_known _ _ c.is_used_place.ensures c.if-not-is_used_place.false-raw; agreeing_value = search rules; opposing_value = search rules }
+is_content_right-requires c = record { place = place_known _ _ c.is_used_place.ensures c.if-not-is_used_place.false-raw; agreeing_sets = search rules; opposing_sets = search rules }
 
 pub returns : goal.returns
 returns c = let a = c.args in

@@ -70,7 +70,7 @@ returns-then-not-are_known_among-2 c = let a = c.args in
 
 pub are_places_held-requires : goal.are_places_held-requires
 unfolding site_rest queue_end_blank queue_exact times_queued
-are_places_held-requires c = record { p_value = search (passed, rules); p_value_2 = search (passed, rules) }
+are_places_held-requires c = record { oks_marked = search (passed, rules); others_marked = search (passed, rules) }
 
 pub returns : goal.returns
 returns c = let a = c.args in
