@@ -32,6 +32,7 @@ GIVEN = {
     "swap": "swapped_sum",
     "Decides": "RulingDecides",
     "HoldsAt": "HoldsThere",
+    "Kept-promise": "KeptPromise",
 }
 
 

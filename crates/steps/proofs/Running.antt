@@ -275,16 +275,16 @@ module _ {whole : Part} {s out₀ : List ℕ} {end room : ℕ} where
 
 module _ (t : Table) (nth : ℕ) (s out : List ℕ) {b : Bool} (e : b ≡ sound_table t) where
   -- what `run` promises
-  abbrev kept_promise : Ran → List ℕ → Type 0
-  kept_promise r out' = (r ≡ ran t nth s (length out)) × ((out' ≡ ran_into t nth s out) × ((r.taken ≤ length s) × (r.written ≤ length out)))
+  abbrev KeptPromise : Ran → List ℕ → Type 0
+  KeptPromise r out' = (r ≡ ran t nth s (length out)) × ((out' ≡ ran_into t nth s out) × ((r.taken ≤ length s) × (r.written ≤ length out)))
 
-  pub run_unsound : not b ≡ true → kept_promise (record { number = 1; taken = 0; written = 0; next = 0; table = t }) out
+  pub run_unsound : not b ≡ true → KeptPromise (record { number = 1; taken = 0; written = 0; next = 0; table = t }) out
   unfolding ran ran_into
   run_unsound h = rw (sym e ∙ not-true b h) (refl, (refl, (omega arith, omega arith)))
 
   module _ (h : not b ≡ false) where
     pub run_sound
         : {r : Ran} {out' : List ℕ} → r ≡ ran_as (part_from t nth s (length out)) → out' ≡ put out 0 (part_from t nth s (length out)).lines
-        → (r.taken ≤ length s) × (r.written ≤ length out) → kept_promise r out'
+        → (r.taken ≤ length s) × (r.written ≤ length out) → KeptPromise r out'
     unfolding ran ran_into
     run_sound a p i = rw (sym e ∙ not-false b h) (a, (p, i))

@@ -309,7 +309,7 @@ fn is_holding_sound<'a, 'b>(
 ) -> bool
     requires oks_marked { are_among (voters_of oks.now p) (voters_of agreed.now p) ≡ true }
     requires others_marked { are_among (voters_of others.now p) (voters_of opposed.now p) ≡ true }
-    ensures { result ≡ holding_sound n me (record { oks = voters_of agreed.now p; others = voters_of opposed.now p }) v (voters_of oks.entry.now p) (voters_of others.now p) }
+    ensures { result ≡ holding_sound n me (record { oks = voters_of agreed.now p; others = voters_of opposed.now p }) v (voters_of oks.now p) (voters_of others.now p) }
 {
     let mark = v.mark;
     if !is_implied(is_ok(mark), is_known(oks, p, me)) {
@@ -349,7 +349,7 @@ fn is_place_held<'a, 'b>(
 ) -> bool
     requires oks_marked { are_among (voters_of oks.now p) (voters_of agreed.now p) ≡ true }
     requires others_marked { are_among (voters_of others.now p) (voters_of opposed.now p) ≡ true }
-    ensures { result ≡ (holding_sound n me (record { oks = voters_of agreed.now p; others = voters_of opposed.now p }) v (voters_of oks.entry.now p) (voters_of others.now p) && implies (eqb stamp 0) (blank_vote v && (no_voters (voters_of oks.entry.now p) && no_voters (voters_of others.now p)))) }
+    ensures { result ≡ (holding_sound n me (record { oks = voters_of agreed.now p; others = voters_of opposed.now p }) v (voters_of oks.now p) (voters_of others.now p) && implies (eqb stamp 0) (blank_vote v && (no_voters (voters_of oks.now p) && no_voters (voters_of others.now p)))) }
 {
     if !is_holding_sound(n, me, v, p, agreed, opposed, oks, others) {
         return false;
@@ -373,7 +373,7 @@ fn are_places_held<'a, 'b>(
 ) -> bool
     requires oks_marked { all 16 (λ p. are_among (voters_of oks.now p) (voters_of agreed.now p)) ≡ true }
     requires others_marked { all 16 (λ p. are_among (voters_of others.now p) (voters_of opposed.now p)) ≡ true }
-    ensures { result ≡ all 16 (λ p. holding_sound n me (record { oks = voters_of agreed.now p; others = voters_of opposed.now p }) (vote_at votes p) (voters_of oks.entry.now p) (voters_of others.now p) && implies (eqb (get_or stamps.now p 0) 0) (blank_vote (vote_at votes p) && (no_voters (voters_of oks.entry.now p) && no_voters (voters_of others.now p)))) }
+    ensures { result ≡ all 16 (λ p. holding_sound n me (record { oks = voters_of agreed.now p; others = voters_of opposed.now p }) (vote_at votes p) (voters_of oks.now p) (voters_of others.now p) && implies (eqb (get_or stamps.now p 0) 0) (blank_vote (vote_at votes p) && (no_voters (voters_of oks.now p) && no_voters (voters_of others.now p)))) }
 {
     for p in 0..16 {
         if !is_place_held(
