@@ -7,7 +7,7 @@ use mathlib.Core.Path.{◌≡◌, refl, ap}
 use Rattle.kit.specs.Lists.{listed, changed, without}
 use Rattle.kit.specs.Range.{any, all, first, largest, passing}
 use Rattle.plans.specs.Changes.{stored}
-use Rattle.plans.specs.declared.answer.Answer.{Answer}
+use Rattle.plans.specs.Answers.{Answer}
 use Rattle.sets.specs.Sets.{member, meets, inside, size, of_items}
 use Rattle.stamps.specs.Issue.{issued}
 use Rattle.stamps.specs.Stamps.{issued_form, well_formed, largest_time, next_time, higher}

@@ -1,7 +1,7 @@
 -- Document 01, "Bench cases": 1 to 10, in one table under one statement. A row has what our definitions make of the case, and what document 01
 -- says comes out; the sentence itself stands above it. Sites count from 1 here, as on the bench, and a request is named by its stamp.
 use Rattle.std.specs.Prelude.{ℕ, ◌-◌, List, [], ◌∷◌, ◌++◌, map, ◌≡◌, ℤ, pos, negsuc, get_or, replicate}
-use Rattle.plans.specs.declared.answer.Answer.{Answer}
+use Rattle.plans.specs.Answers.{Answer}
 use Rattle.record.specs.declared.Step.{Step}
 use Rattle.majority.specs.Majority.{majority, blocking}
 use Rattle.vote.specs.Data.{vote_at}

@@ -18,7 +18,7 @@ use Rattle.plans.specs.Changes.{stored, forgotten}
 use Rattle.record.specs.declared.Step.{Step}
 use Rattle.sets.specs.Sets.{member}
 use Rattle.stamps.specs.Stamps.{time_of, digit_of}
-use Rattle.stamps.specs.declared.Issue.TheVariants as issue
+use Rattle.stamps.specs.Issue.{given}
 use Rattle.stamps.proofs.Laws.{GivenAt, given_facts, given_digit, given_time, given_larger}
 use Rattle.table.specs.Meaning.{ShapedTable, Sound}
 use Rattle.table.specs.Places.{site_at, message_at, place_at, with_site}
@@ -106,7 +106,7 @@ module _ (t : Table) (a : Step) (w : Well t) where
   abbrev p : ℕ
   p = free_place t
 
-  module _ (e : begin_number t a ≡ 0) (small : a.update < 2 ^ 32) (stamp time : ℕ) (given : issue_for t a ≡ issue.Given stamp time) where
+  module _ (e : begin_number t a ≡ 0) (small : a.update < 2 ^ 32) (stamp time : ℕ) (given : issue_for t a ≡ given stamp time) where
     abbrev q : Request
     q = stored a stamp
 
@@ -188,7 +188,7 @@ module _ (t : Table) (a : Step) (w : Well t) where
     given_goes = rw (given, in_ledger) (goes_then begins considers)
 
   begun_goes : begin_number t a ≡ 0 → a.update < 2 ^ 32 → To (begun t a).table (all_said k (entered t a).requests (begun t a).log ++ (began (place_at (entered t a) p) ∷ []))
-  begun_goes e small = let i = given_of (issue_for t a) (may_begin t a e).stamp in given_goes e small i.0 i.1 i.2
+  begun_goes e small = let i = given_of t a (may_begin t a e).stamp in given_goes e small i.0 i.1 i.2
 
   -- ---- the step
 

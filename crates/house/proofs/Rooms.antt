@@ -1,17 +1,21 @@
 -- Room for bytes, what they leave of it, and bytes written into it.
-use mathlib.Core.Path.{◌≡◌, refl, ◌∙◌}
+use mathlib.Core.Path.{◌≡◌, refl, sym, ap, ◌∙◌}
 use mathlib.Core.Bool.{true, false}
-use mathlib.Core.List.{List, [], ◌∷◌}
+use mathlib.Core.List.{List, [], ◌∷◌, append_assoc}
 use Prim.Native.Nat.{ℕ, ◌+◌, ◌-◌, ◌≤◌, ◌<◌}
 use native.Mathlib.Omega.{arith}
 use borrow.Author.Tests.{le-leb, lt-leb}
-use lib.ListN.{length}
-use Rattle.kit.specs.Lists.{placed}
+use lib.ListN.{length, take}
+use lib.Seq.{drop-drop}
+use borrow.Rule.Slice.PartMut.{put_mid}
+use Rattle.kit.specs.Lists.{put, placed}
 use Rattle.kit.proofs.Bools.{by_le}
 use Rattle.kit.proofs.Puts.{put_none, placed_in, placed_out}
 use Rattle.plans.specs.Answers.{refusal}
 use Rattle.steps.specs.Night.{line_for, last_line}
-use Rattle.house.specs.House.{room_after}
+use Rattle.std.specs.Option.{SomeIff}
+use Rattle.std.specs.Prelude.{Option, None, Some}
+use Rattle.house.specs.House.{room_after, room_answer}
 
 -- ---- what is left
 
@@ -30,11 +34,22 @@ room_rest left a n h =
     (λ l. let e : left - a - n ≡ left - (a + n) = omega arith in rw (room_in (left - a) n l, room_in left (a + n) (omega arith), e) refl)
     (λ l. rw (room_out (left - a) n l, room_out left (a + n) (omega arith)) refl)
 
+-- what `checked_sub` answers
+pub room_told : (room n : ℕ) (o : Option ℕ) → SomeIff o (n ≤ room) (room - n) → room_answer o ≡ room_after room n
+room_told room n (Some x) e = sym (room_in room n e.0 ∙ ap (λ (k : ℕ). record { enough = true; left = k }) (sym e.1))
+room_told room n None e = by_le n room (λ h. absurd (e h)) (λ h. sym (room_out room n h))
+
 -- ---- no bytes written change nothing
 
 pub placed_none : (d : List ℕ) (at : ℕ) → placed d at [] ≡ d
 placed_none d at =
     by_le (at + length {A = ℕ} []) (length d) (λ h. placed_in d at [] h ∙ put_none d at) (λ h. placed_out d at [] h)
+
+-- ---- bytes copied into a part of a buffer
+
+pub copied_in : (at k : ℕ) (d e f : List ℕ) → e ≡ f → length e ≡ k → put_mid at k d e ≡ put d at f
+unfolding put
+copied_in at k d e f q l = rw (← q, ← l, ← drop-drop (length e) at d) (sym (append_assoc (take at d) e _))
 
 -- ---- the line of a record that is cut, where any bytes are left
 

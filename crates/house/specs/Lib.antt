@@ -1,2 +1,3 @@
 -- What the contracts of `house` cite.
 pub mod House
+pub mod Ways

@@ -1,16 +1,27 @@
 // The library of the other houses: a handful of functions on numbers and bytes. C and Rust call them through house_c, which exports each under its
 // own name with the same clauses; include/vundrelt.h says the same to a C caller. Each returns document 01's number: 0 where it is done. Beside a
 // refusal every number given back is 0, and a buffer is as it came.
+// Stays: the C interface; C reads numbers for refusals, and takes each answer in a parameter of its own.
 #![tactic(auto)]
 
 ghost use Rattle.std.specs.Prelude.{◌≡◌, length};
 ghost use Rattle.sitefile.specs.Read.{file_read};
 ghost use Rattle.sitefile.specs.Write.{file_written, buffer_after};
-ghost use Rattle.house.specs.House.{night_length, night_printed, night_into};
+ghost use Rattle.house.specs.House.{night_length, night_printed, night_into, print_answer};
 
+use refusals::{Refusal, answer_number};
 use sitefile::{read_site_file, write_site_file};
 
 pub mod night;
+
+// Hands out how many bytes were written, 0 beside a refusal, and gives the number.
+fn hand_out(answer: Result<usize, Refusal>, written: &mut usize) -> u8
+    ensures number { result ≡ (print_answer answer).number }
+    ensures written { written.new ≡ (print_answer answer).length }
+{
+    *written = answer.unwrap_or(0);
+    answer_number(answer)
+}
 
 // How many bytes the lines of a night are; the largest number there is where they are more.
 pub fn vundrelt_night_length(input: &[u8]) -> usize
@@ -26,9 +37,7 @@ pub fn vundrelt_night(input: &[u8], output: &mut [u8], written: &mut usize) -> u
     ensures written { written.new ≡ (night_printed input.now (length output.old)).length }
     ensures bytes { output.new ≡ night_into input.now output.old }
 {
-    let p = night::print_night(input, output);
-    *written = p.length;
-    p.number
+    hand_out(night::print_night(input, output), written)
 }
 
 // Reads a site file: its site, and the stamps and values by item; 18 and zeros where the bytes are no site file.
@@ -43,13 +52,22 @@ pub fn vundrelt_read_site_file(
     ensures stamps { stamps.new ≡ (file_read input.now).stamps }
     ensures values { values.new ≡ (file_read input.now).values }
 {
-    let f = read_site_file(input);
-    let all_stamps = f.stamps;
-    let all_values = f.values;
-    *site = f.site;
-    *stamps = all_stamps;
-    *values = all_values;
-    f.number
+    match read_site_file(input) {
+        Ok(file) => {
+            let all_stamps = file.stamps;
+            let all_values = file.values;
+            *site = file.site;
+            *stamps = all_stamps;
+            *values = all_values;
+            0
+        }
+        Err(refusal) => {
+            *site = 0;
+            *stamps = [0; 24];
+            *values = [0; 24];
+            refusal.number()
+        }
+    }
 }
 
 // Writes a site file at the front of the output, and says how many bytes it is; 19 where the output is too short or the site or a reading is
@@ -65,7 +83,5 @@ pub fn vundrelt_write_site_file(
     ensures written { written.new ≡ (file_written (length output.old) site stamps.now values.now).length }
     ensures bytes { output.new ≡ buffer_after output.old site stamps.now values.now }
 {
-    let w = write_site_file(output, site, *stamps, *values);
-    *written = w.length;
-    w.number
+    hand_out(write_site_file(output, site, stamps, values), written)
 }

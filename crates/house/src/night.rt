@@ -1,151 +1,100 @@
 // A night from bytes to bytes. To refuse before anything is written it is gone through twice: once for the length of its lines, which are
 // kept nowhere, and once to write them.
-ghost use Rattle.std.specs.Prelude.{◌≡◌, ◌≤◌, length};
-ghost use Rattle.kit.specs.Lists.{put, placed};
-ghost use Rattle.plans.specs.Answers.{refusal};
-ghost use Rattle.steps.specs.Night.{line_for, last_line, lines_from, night_of};
+ghost use Rattle.std.specs.Prelude.{◌≡◌, ◌≤◌, ◌<◌, length, IfSome};
+ghost use Rattle.steps.specs.Night.{last_line, lines_from, night_of};
 ghost use Rattle.steps.proofs.Upkeep.{Well};
-ghost use Rattle.house.specs.House.{room_after, night_length, night_printed, night_into};
+ghost use Rattle.kit.specs.Lists.{put, placed};
+ghost use Rattle.house.specs.Ways.{Ready, Led};
+ghost use Rattle.house.specs.House.{room_after, room_answer, night_length, night_printed, night_into, print_answer};
 
-use kit::ends_inside;
 use lines::{refused_length, write_refused};
+use refusals::Refusal;
 use steps::run::run;
 use table::data::Table;
 use table::fresh::fresh;
 
-// What some bytes leave of a room: whether they fit, and how many bytes are left behind them, 0 where they do not.
+// Where the way through the records of a night stands: the table, the number of the next record, and the bytes that are left.
 #[derive(Clone, Copy)]
-struct Room {
-    enough: bool,
-    left: usize,
+struct Records<'a> {
+    table: Table,
+    next: u64,
+    rest: &'a [u8],
 }
 
-// What printing a night answers: document 01's number, 0 or 19, and the length of its lines, 0 beside 19.
-#[derive(Clone, Copy)]
-pub struct Printed {
-    pub number: u8,
-    pub length: usize,
-}
-
-// ---- bytes
-
-// What n bytes leave of a room.
-fn room_after(room: usize, n: usize) -> Room
-    ensures { result ≡ room_after room n }
-{
-    if n <= room {
-        return Room {
-            enough: true,
-            left: room - n,
-        };
-    }
-    Room {
-        enough: false,
-        left: 0,
+impl Records<'_> {
+    // Answers records as far as the buffer has room for their lines, and writes these at its front; how many bytes they are, or none
+    // where no record is whole.
+    fn answer(&mut self, lines: &mut [u8]) -> Option<usize>
+        requires { Ready self.old.table self.old.next self.old.rest.now (length lines.old) }
+        ensures ready { Ready self.new.table self.new.next self.new.rest.now (length lines.new) }
+        ensures lines { Led (lines_from self.old.table self.old.next self.old.rest.now) result lines.new self.new.table self.new.next self.new.rest.now }
+        ensures less { IfSome result (λ n. length self.new.rest.now < length self.old.rest.now) }
+    {
+        let ran = run(&mut self.table, self.next, self.rest, lines).unwrap();
+        if ran.taken == 0 {
+            return None;
+        }
+        self.next = ran.next;
+        self.rest = &self.rest[ran.taken..];
+        Some(ran.written)
     }
 }
 
-// Bytes written at a place, where they end inside the buffer; nothing else changes.
-fn copy_to(d: &mut [u8], at: usize, s: &[u8])
-    ensures { d.new ≡ placed d.old at s.now }
-{
-    let n = s.len();
-    if !ends_inside(d.len(), at, n) {
-        return;
-    }
-    for k in 0..n {
-        d[at + k] = s[k];
-    }
-}
+// ---- the line of a record that is cut
 
-// Room for the lines of one run: no line is longer than 89 bytes.
-fn lines_room() -> [u8; 4096]
-    ensures { 4096 ≡ length result }
-{
-    [0; 4096]
-}
-
-// ---- the line of a refusal
-
-// How many bytes the line of a number has that has zeros beside it.
-fn refusal_length(nth: u64, number: u8) -> usize
-    ensures { result ≡ length (line_for nth (refusal number)) }
-{
-    refused_length(nth, number)
-}
-
-// That line, written at a place where it ends inside the buffer.
-fn write_refusal(output: &mut [u8], at: usize, nth: u64, number: u8)
-    ensures { output.new ≡ placed output.old at (line_for nth (refusal number)) }
-{
-    write_refused(output, at, nth, number);
-}
-
-// The line of a record that is cut, where any bytes are left: how many bytes it has.
+// How many bytes it has, where any bytes are left.
+#[tactic(auto, using(crate::proofs::Rooms::last_none, crate::proofs::Rooms::last_some))]
 fn last_length(nth: u64, rest: &[u8]) -> usize
     ensures { result ≡ length (last_line nth rest.now) }
 {
-    if rest.len() == 0 {
+    if rest.is_empty() {
         return 0;
     }
-    refusal_length(nth, 17)
+    refused_length(nth, Refusal::WrongRecord.number())
 }
 
 // The same line, written at a place where it ends inside the buffer.
+#[tactic(auto, using(crate::proofs::Rooms::last_none, crate::proofs::Rooms::last_some, crate::proofs::Rooms::placed_none))]
 fn write_last(output: &mut [u8], at: usize, nth: u64, rest: &[u8])
     ensures { output.new ≡ placed output.old at (last_line nth rest.now) }
 {
-    if rest.len() == 0 {
-        return;
+    if !rest.is_empty() {
+        write_refused(output, at, nth, Refusal::WrongRecord.number());
     }
-    write_refusal(output, at, nth, 17);
 }
 
 // ---- once for the length
 
 // What the lines of all records leave of a room.
-fn room_after_records(fresh: Table, input: &[u8], room: usize) -> Room
+fn room_after_records(fresh: Table, input: &[u8], room: usize) -> Option<usize>
     requires { Well fresh }
-    ensures { result ≡ room_after room (length (lines_from fresh 1 input.now)) }
+    ensures { room_answer result ≡ room_after room (length (lines_from fresh 1 input.now)) }
 {
-    let end = input.len();
-    let mut buf = lines_room();
-    let mut t = fresh;
-    let mut next: u64 = 1;
-    let mut at: usize = 0;
+    let mut lines = [0; 4096];
+    let mut records = Records {
+        table: fresh,
+        next: 1,
+        rest: input,
+    };
     let mut left = room;
-    loop {
-        let r = run(t, next, &input[at..end], &mut buf);
-        if r.taken == 0 {
-            return room_after(left, last_length(next, &input[at..end]));
-        }
-        if left < r.written {
-            return Room {
-                enough: false,
-                left: 0,
-            };
-        }
-        left -= r.written;
-        at += r.taken;
-        next = r.next;
-        let u = r.table;
-        t = u;
+    while let Some(n) = records.answer(&mut lines) {
+        left = left.checked_sub(n)?;
     }
+    left.checked_sub(last_length(records.next, records.rest))
 }
 
 // What the lines of a night leave of a room.
-fn room_after_night(input: &[u8], room: usize) -> Room
-    ensures { result ≡ room_after room (length (night_of input.now)) }
+fn room_after_night(input: &[u8], room: usize) -> Option<usize>
+    ensures { room_answer result ≡ room_after room (length (night_of input.now)) }
 {
-    if input.len() == 0 {
-        return room_after(room, refusal_length(0, 17));
-    }
-    let f = fresh(input[0]);
+    let Some((count, records)) = input.split_first() else {
+        return room.checked_sub(refused_length(0, Refusal::WrongRecord.number()));
+    };
+    let f = fresh(*count);
     if f.number != 0 {
-        return room_after(room, refusal_length(0, 3));
+        return room.checked_sub(refused_length(0, f.number));
     }
-    let t = f.table;
-    room_after_records(t, &input[1..], room)
+    room_after_records(f.table, records, room)
 }
 
 // ---- once to write
@@ -156,26 +105,18 @@ fn write_records(fresh: Table, input: &[u8], output: &mut [u8])
     requires input_in_bounds { length (lines_from fresh 1 input.now) ≤ length output.old }
     ensures { output.new ≡ put output.old 0 (lines_from fresh 1 input.now) }
 {
-    let end = input.len();
-    let mut buf = lines_room();
-    let mut t = fresh;
-    let mut next: u64 = 1;
-    let mut at: usize = 0;
-    let mut to: usize = 0;
-    loop {
-        let r = run(t, next, &input[at..end], &mut buf);
-        if r.taken == 0 {
-            write_last(output, to, next, &input[at..end]);
-            return;
-        }
-        let n = r.written;
-        copy_to(output, to, &buf[..n]);
+    let mut lines = [0; 4096];
+    let mut records = Records {
+        table: fresh,
+        next: 1,
+        rest: input,
+    };
+    let mut to = 0;
+    while let Some(n) = records.answer(&mut lines) {
+        output[to..to + n].copy_from_slice(&lines[..n]);
         to += n;
-        at += r.taken;
-        next = r.next;
-        let u = r.table;
-        t = u;
     }
+    write_last(output, to, records.next, records.rest);
 }
 
 // The lines of a night, written at the front.
@@ -183,17 +124,16 @@ fn write_night(input: &[u8], output: &mut [u8])
     requires { length (night_of input.now) ≤ length output.old }
     ensures { output.new ≡ put output.old 0 (night_of input.now) }
 {
-    if input.len() == 0 {
-        write_refusal(output, 0, 0, 17);
+    let Some((count, records)) = input.split_first() else {
+        write_refused(output, 0, 0, Refusal::WrongRecord.number());
         return;
-    }
-    let f = fresh(input[0]);
+    };
+    let f = fresh(*count);
     if f.number != 0 {
-        write_refusal(output, 0, 0, 3);
+        write_refused(output, 0, 0, f.number);
         return;
     }
-    let t = f.table;
-    write_records(t, &input[1..], output);
+    write_records(f.table, records, output);
 }
 
 // ---- the night
@@ -202,26 +142,16 @@ fn write_night(input: &[u8], output: &mut [u8])
 pub fn night_length(input: &[u8]) -> usize
     ensures { result ≡ night_length input.now }
 {
-    let r = room_after_night(input, 18446744073709551615);
-    18446744073709551615 - r.left
+    usize::MAX - room_after_night(input, usize::MAX).unwrap_or(0)
 }
 
-// The lines of a night at the front of an output, where it has room for all of them.
-pub fn print_night(input: &[u8], output: &mut [u8]) -> Printed
-    ensures answer { result ≡ night_printed input.now (length output.old) }
+// The lines of a night at the front of an output, where it has room for all of them; how many bytes they are.
+pub fn print_night(input: &[u8], output: &mut [u8]) -> Result<usize, Refusal>
+    ensures answer { print_answer result ≡ night_printed input.now (length output.old) }
     ensures bytes { output.new ≡ night_into input.now output.old }
 {
     let room = output.len();
-    let r = room_after_night(input, room);
-    if !r.enough {
-        return Printed {
-            number: 19,
-            length: 0,
-        };
-    }
+    let left = room_after_night(input, room).ok_or(Refusal::NotWritten)?;
     write_night(input, output);
-    Printed {
-        number: 0,
-        length: room - r.left,
-    }
+    Ok(room - left)
 }

@@ -1,22 +1,24 @@
 -- Little-endian fields of n bytes: each law once, over the width n.
 use mathlib.Core.Path.{◌≡◌, refl, sym, ap, ap₂, ◌∙◌, subst}
 use mathlib.Core.Bool.{Bool, true, false, not, ◌&&◌}
-use mathlib.Core.List.{List, [], ◌∷◌, ◌++◌}
+use mathlib.Core.List.{List, [], ◌∷◌, ◌++◌, append-nil}
 use Prim.Native.Nat.{ℕ, zero, suc, ◌+◌, ◌-◌, ◌*◌, ◌/◌, ◌%◌, ◌^◌, ◌≤◌, ◌<◌}
-use native.Mathlib.Nat.{not-suc-le-zero, le_of_suc-le-suc, pow-suc, pow-le-pow_right, lt_of_lt_of_le, mod-one, div-one, div-div-eq-div-mul, mul_comm, one-le-pow, sub_self, sub-zero, add-zero, le_antisymm, mod-eq_of_lt}
+use native.Mathlib.Nat.{not-suc-le-zero, le_of_suc-le-suc, pow-suc, pow-le-pow_right, lt_of_lt_of_le, mod-one, div-one, div-div-eq-div-mul, mul_comm, one-le-pow, sub_self, sub-zero, add-zero, mod-eq_of_lt}
 use native.Mathlib.Omega.{arith}
-use native.Mathlib.Numerals.{add-one}
-use borrow.Author.Tests.{le-leb, lt-leb, leb-true, leb-false, not-true, not-false}
+use borrow.Author.Tests.{le-leb, leb-true, leb-false, not-true, not-false}
 use lib.Arith.{mod-mul}
 use lib.Dec.{lit<, leb}
 use lib.ListN.{length, get_or, take, drop, set, length-append, length-drop}
-use lib.Seq.{get_or-drop, paste, paste-suc, take_all, drop_at, drop-append-le}
+use borrow.Rule.Slice.PartMut.{put_mid}
+use lib.Seq.{get_or-drop, paste, length-take-le, drop_at, drop-append-le}
+use Rattle.std.proofs.lemmas.List.{drop_all}
+use Rattle.std.proofs.lemmas.List.Edits.{paste_more, paste_all}
 use mir.Syntax.{w8, w32}
 use mir.Val.{Fits}
 use Rattle.kit.specs.Bytes.{le, bytes_of, field_at}
-use Rattle.kit.specs.Lists.{put, placed}
+use Rattle.kit.specs.Lists.{placed}
 use Rattle.kit.proofs.Bools.{of_cond}
-use Rattle.kit.proofs.Puts.{placed_in, placed_out}
+use Rattle.kit.proofs.Puts.{placed_in, placed_out, put_part}
 
 -- ---- the number of n bytes
 
@@ -82,14 +84,6 @@ written_read (suc n) (b ∷ s) h l =
 pub field_in : (s : List ℕ) (at n : ℕ) → n ≤ 8 → at + n ≤ length s → field_at s at n ≡ le n (drop at s)
 unfolding field_at
 field_in s at n h l = rw (le-leb n 8 h, le-leb (at + n) (length s) l)
-
-pub field_long : (s : List ℕ) (at n : ℕ) → 8 < n → 0 ≡ field_at s at n
-unfolding field_at
-field_long s at n h = rw (lt-leb n 8 h)
-
-pub field_out : (s : List ℕ) (at n : ℕ) → n ≤ 8 → length s < at + n → 0 ≡ field_at s at n
-unfolding field_at
-field_out s at n h l = rw (le-leb n 8 h, lt-leb (at + n) (length s) l)
 
 -- the code's test of it, r, as it asks `if !r`
 pub ends_in : (r : Bool) (at n len : ℕ) → r ≡ leb (at + n) len → not r ≡ false → at + n ≤ len
@@ -174,18 +168,30 @@ room m v h l = lt_of_lt_of_le l (pow-le-pow_right (lit< tt) h)
 pub div_more : (v k : ℕ) → v / 256 ^ k / 256 ≡ v / 256 ^ suc k
 div_more v k = div-div-eq-div-mul v (256 ^ k) 256 ∙ ap (λ (x : ℕ). v / x) (sym (pow-suc 256 k))
 
-pub write_turn : (d₀ d : List ℕ) (at n v k rest : ℕ) → k < n → at + n ≤ length d₀ → rest ≡ v / 256 ^ k → d ≡ paste d₀ at (bytes_of n v) k → set d (at + k) (rest % 256) ≡ paste d₀ at (bytes_of n v) (k + 1)
-write_turn d₀ d at n v k rest h room_left hr hd =
-    ap₂ (λ (l : List ℕ) (x : ℕ). set l (at + k) x) hd (ap (λ (x : ℕ). x % 256) hr ∙ sym (bytes_at n k v h))
-    ∙ paste-suc d₀ at (bytes_of n v) k 0 (omega arith) (omega (arith, length_bytes n v))
-    ∙ ap (paste d₀ at (bytes_of n v)) (sym (add-one k))
+-- the part of n bytes from a place on
+length_part : (d : List ℕ) (at n : ℕ) → at + n ≤ length d → length (take (at + n - at) (drop at d)) ≡ n
+length_part d at n h = length-take-le (at + n - at) (drop at d) (omega (arith, length-drop at d)) ∙ omega arith
 
-pub write_end : (d₀ d : List ℕ) (at n v k : ℕ) → at + n ≤ length d₀ → k ≤ n → n ≤ k → d ≡ paste d₀ at (bytes_of n v) k → d ≡ placed d₀ at (bytes_of n v)
-unfolding put
-write_end d₀ d at n v k i h l e =
-    e ∙ ap (paste d₀ at (bytes_of n v)) (le_antisymm h l)
-    ∙ ap₂ (λ (r : List ℕ) (m : ℕ). take at d₀ ++ r ++ drop (at + m) d₀) (take_all n (bytes_of n v) (omega (arith, length_bytes n v))) (sym (length_bytes n v))
-    ∙ sym (placed_in d₀ at (bytes_of n v) (omega (arith, length_bytes n v)))
+-- a byte more in a part of n bytes
+pub write_turn : (d p : List ℕ) (at n v k rest : ℕ) → at + n ≤ length d → k < length (take (at + n - at) (drop at d)) → rest ≡ v / 256 ^ k
+    → p ≡ paste (take (at + n - at) (drop at d)) 0 (bytes_of n v) k → set p k (rest % 256) ≡ paste (take (at + n - at) (drop at d)) 0 (bytes_of n v) (k + 1)
+write_turn d p at n v k rest room_left h hr hp =
+    let q = take (at + n - at) (drop at d) in
+    let m : length q ≡ n = length_part d at n room_left in
+    let z : k ≡ 0 + k = omega arith in
+    ap (λ (j : ℕ). set p j (rest % 256)) z
+    ∙ ap₂ (λ (l : List ℕ) (x : ℕ). set l (0 + k) x) hp (ap (λ (x : ℕ). x % 256) hr ∙ sym (bytes_at n k v (omega arith)))
+    ∙ paste_more q 0 (bytes_of n v) k 0 (omega arith) (omega (arith, length_bytes n v))
+
+-- all of them
+pub write_end : (d p : List ℕ) (at n v k : ℕ) → at + n ≤ length d → k ≤ length (take (at + n - at) (drop at d)) → length (take (at + n - at) (drop at d)) ≤ k
+    → p ≡ paste (take (at + n - at) (drop at d)) 0 (bytes_of n v) k → put_mid at (at + n - at) d p ≡ placed d at (bytes_of n v)
+write_end d p at n v k room_left h l e =
+    let q = take (at + n - at) (drop at d) in
+    let m : length q ≡ n = length_part d at n room_left in
+    let whole : paste q 0 (bytes_of n v) k ≡ bytes_of n v =
+    paste_all q 0 (bytes_of n v) k (omega (arith, length_bytes n v)) ∙ ap (λ (x : List ℕ). bytes_of n v ++ x) (drop_all (0 + k) q (omega arith)) ∙ append-nil (bytes_of n v) in
+    put_part d (bytes_of n v) p at n (sym (length_bytes n v)) (e ∙ whole) ∙ sym (placed_in d at (bytes_of n v) (omega (arith, length_bytes n v)))
 
 pub write_none : (d : List ℕ) (at n v : ℕ) → length d < at + n → d ≡ placed d at (bytes_of n v)
 write_none d at n v h = sym (placed_out d at (bytes_of n v) (omega (arith, length_bytes n v)))

@@ -4,6 +4,7 @@ pub mod Ranges
 pub mod Counts
 pub mod Loops
 pub mod Listings
+pub mod Iterated
 pub mod Passing
 pub mod Gathers
 pub mod Members

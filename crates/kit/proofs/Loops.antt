@@ -1,7 +1,7 @@
 -- One law set for each kind of loop over 0..n. The invariant is a record, what the turns before the i-th found; `r` is what the turn's test
 -- gave, `r ≡ p i` what it means. Answer every need of such a loop by `search` with the kind's ruleset, at the end of this file.
 use mathlib.Core.Path.{◌≡◌, refl, sym, ap, ◌∙◌}
-use mathlib.Core.Bool.{Bool, true, false, not, cond}
+use mathlib.Core.Bool.{Bool, true, false, not, cond, ◌||◌}
 use Prim.Native.Nat.{ℕ, ◌+◌, ◌≤◌, ◌<◌, max}
 use borrow.Author.Tests.{not-true, not-false}
 use native.Mathlib.Numerals.{add-one}
@@ -65,7 +65,7 @@ first_found {n} {p} {i} m l e f = sym (first_is n i p m.none l (sym e ∙ f))
 pub first_over : {n : ℕ} {p : ℕ → Bool} {i : ℕ} → Missed n p i → n ≤ i → n ≡ first n p
 first_over {n} {p} {i} m l = let e : i ≡ n = omega (arith, m.in_reach) in sym (first_none n p (rw e at m.none))
 
--- ---- `for i in 0..n { k = k + one_if(test(i)); } k` computes `number n p`
+-- ---- `for i in 0..n { k += u64::from(test(i)); } k` computes `number n p`
 
 pub record Counted (n : ℕ) (p : ℕ → Bool) (i k : ℕ) : Type 0 where
   pub in_reach : i ≤ n
@@ -120,3 +120,15 @@ pub ruleset firsts = (missed_none, missed_more, first_found, first_over, arith)
 pub ruleset counts = (counted_none, counted_more, counted_over, arith)
 
 pub ruleset tops = (topped_none, topped_more, topped_over, arith)
+
+-- ---- loops that note whether some one passed, and go on to the end
+
+pub noted_none : (p : ℕ → Bool) → false ≡ any 0 p
+unfolding any
+noted_none p = refl
+
+pub noted_more : (p : ℕ → Bool) {i : ℕ} {b r : Bool} → b ≡ any i p → r ≡ p i → (b || r) ≡ any (i + 1) p
+noted_more p {i} e f = rw (add-one, any_suc i p, e, f) refl
+
+pub noted_over : (p : ℕ → Bool) {n i : ℕ} {b : Bool} → b ≡ any i p → i ≤ n → n ≤ i → b ≡ any n p
+noted_over p {n} {i} e h l = let s : i ≡ n = omega arith in rw s at e

@@ -1,11 +1,12 @@
 -- Pieces put into a buffer: `put d at e`, `placed d at e`, one behind the other.
 use mathlib.Core.Path.{◌≡◌, sym, ap, ap₂, ◌∙◌}
 use mathlib.Core.List.{List, [], ◌∷◌, ◌++◌, append-nil, append_assoc}
-use Prim.Native.Nat.{ℕ, suc, ◌+◌, ◌≤◌, ◌<◌}
+use Prim.Native.Nat.{ℕ, suc, ◌+◌, ◌-◌, ◌≤◌, ◌<◌}
 use native.Mathlib.Nat.{add-zero, zero-add, add_assoc}
 use native.Mathlib.Numerals.{add-one}
 use native.Mathlib.Omega.{arith}
 use borrow.Author.Tests.{le-leb, lt-leb}
+use borrow.Rule.Slice.PartMut.{put_mid}
 use lib.ListN.{length, take, drop, set, length-append, length-drop, length-set, take-append-drop}
 use lib.Seq.{length-take-le, take_at, take-set-le, drop-append-add, drop-drop, drop-cons, drop-set-lt, get_or-set_same, set_split, append_snoc}
 use Rattle.kit.specs.Lists.{put, placed}
@@ -73,6 +74,13 @@ module _ {A : Type 0} where
   pub placed_out : (d : List A) (at : ℕ) (e : List A) → length d < at + length e → placed d at e ≡ d
   unfolding placed
   placed_out d at e h = rw (lt-leb (at + length e) (length d) h)
+
+  -- a part that was lent, as it comes back with a piece of its length
+  pub put_part : (d e f : List A) (at n : ℕ) → n ≡ length e → f ≡ e → put_mid at (at + n - at) d f ≡ put d at e
+  unfolding put
+  put_part d e f at n h w =
+      let k : at + n - at ≡ length e = omega arith in
+      ap₂ (λ (x : List A) (m : ℕ). take at d ++ (x ++ drop m (drop at d))) w k ∙ ap (λ (x : List A). take at d ++ (e ++ x)) (drop-drop (length e) at d) ∙ sym (append_assoc (take at d) e (drop (at + length e) d))
 
   -- ---- pieces placed one behind the other
 

@@ -5,8 +5,10 @@ use Prim.Native.Nat.{ℕ, zero, suc, ◌+◌, ◌≤◌, ◌<◌, max}
 use native.Mathlib.Decide.{dec_lt, le_ind}
 use native.Mathlib.Nat.{le_refl, le_trans, add_comm, add_assoc, le-add_right}
 use native.Mathlib.Omega.{arith}
+use Rattle.std.specs.Ordering.{ord_max, nat_cmp}
+use borrow.Author.Tests.{lt-ltb, le-ltb, eq-eqb, ne_eqb}
 use Rattle.kit.specs.Range.{any, all, one, number, first, largest}
-use Rattle.kit.proofs.Bools.{clash, or_left, or_right, by_test}
+use Rattle.kit.proofs.Bools.{clash, or_left, or_right, by_test, by_lt}
 
 -- ---- one number more
 
@@ -221,6 +223,10 @@ largest_at (suc n) p f i l e = go (p n) refl (dec_lt i n) (λ h. largest_at n p 
     go true b (no h) r = let j : i ≡ n = omega arith in rw j (omega arith)
     go false b (yes h) r = r h
     go false b (no h) r = let j : i ≡ n = omega arith in clash e (rw (← j) at b)
+
+-- `a.max(b)` is the larger of the two
+pub ord_max_is : (a b : ℕ) → ord_max nat_cmp a b ≡ max a b
+ord_max_is a b = by_lt b a (λ h. rw (lt-ltb b a h) (omega arith)) (λ h. rw (le-ltb b a h) (by_lt a b (λ k. rw (ne_eqb b a (omega arith)) (omega arith)) (λ k. rw (eq-eqb b a (omega arith)) (omega arith))))
 
 pub largest_below : (n : ℕ) (p : ℕ → Bool) (f : ℕ → ℕ) (b : ℕ) → ((i : ℕ) → i < n → p i ≡ true → f i ≤ b) → largest n p f ≤ b
 unfolding largest

@@ -7,21 +7,20 @@ use native.Mathlib.Omega.{arith}
 use borrow.Author.Tests.{leb-true, le-leb, lt-leb, lt-ltb, le-ltb, ltb-true, not-true, not-false}
 use lib.Dec.{ltb, leb}
 use lib.IntN.{ℤ}
-use lib.Signed.{nat_abs-le}
 use lib.ListN.{length, take, length-take}
-use lib.Seq.{length-take-le, take-take}
-use mir.Syntax.{w8, w32, w64}
-use mir.Val.{Fits, SFits, to_z, of_z}
-use mir.Facts.{to_z-of_z}
+use lib.Seq.{length-take-le, take-take, take-length}
+use mir.Syntax.{w64}
+use mir.Val.{Fits}
 use Rattle.kit.specs.Lists.{put}
 use Rattle.kit.proofs.Bools.{and_left, and_right, by_test, of_cond, cond_yes, cond_no}
 use Rattle.kit.proofs.Puts.{length_put, put_put, take_put}
 use Rattle.kit.proofs.Fields.{ends_in, ends_out}
+use Rattle.lines.specs.declared.Digits.{Digits}
 use Rattle.lines.specs.Lines.{decimal_of, line_of, Wrote}
 use Rattle.lines.specs.Counts.{is_kept, counted, is_keepable, counted_digits, counted_length, is_grown, one_more, digits_on, length_on, first_written, line_with, tail_of, ample_placed, ample_fitted}
 use Rattle.lines.proofs.Decimals.{length_some, length_le}
 use Rattle.lines.proofs.Growing.{more_length, next_number}
-use Rattle.lines.proofs.Tails.{put_over, line_with_lem, with_tail, length_with, tail_some, tail_short}
+use Rattle.lines.proofs.Tails.{put_over, line_with_lem, with_tail, length_with, tail_some}
 
 -- ---- what is kept
 
@@ -39,10 +38,6 @@ module _ (size len : ℕ) where
   pub kept_none : len < 1 → false ≡ is_kept size len
   unfolding is_kept
   kept_none h = rw (lt-leb 1 len h)
-
-  pub kept_long : 1 ≤ len → 8 < len → false ≡ is_kept size len
-  unfolding is_kept
-  kept_long h l = rw (le-leb 1 len h, lt-leb len 8 l)
 
   pub kept_fits : 1 ≤ len → len ≤ 8 → leb 8 size ≡ is_kept size len
   unfolding is_kept
@@ -106,10 +101,6 @@ module _ (digits : List ℕ) (n : ℕ) where
   unfolding is_keepable
   too_large h = rw (le-ltb n 100000000 h)
 
-  too_few : n < 100000000 → length digits < 8 → is_keepable (length digits) n ≡ false
-  unfolding is_keepable
-  too_few h l = rw (lt-ltb n 100000000 h, lt-leb 8 (length digits) l)
-
   keepable : n < 100000000 → 8 ≤ length digits → is_keepable (length digits) n ≡ true
   unfolding is_keepable
   keepable h l = rw (lt-ltb n 100000000 h, le-leb 8 (length digits) l)
@@ -120,22 +111,16 @@ module _ (digits : List ℕ) (n : ℕ) where
   pub large_digits : 100000000 ≤ n → digits ≡ counted_digits digits n
   large_digits h = sym (digits_out (too_large h))
 
-  pub few_length : n < 100000000 → length digits < 8 → 0 ≡ counted_length digits n
-  few_length h l = sym (length_out (too_few h l))
-
-  pub few_digits : n < 100000000 → length digits < 8 → digits ≡ counted_digits digits n
-  few_digits h l = sym (digits_out (too_few h l))
-
-  module _ (h : n < 100000000) (l : 8 ≤ length digits) where
+  module _ (h : n < 100000000) (l : length digits ≡ 8) where
     pub front_fits : 0 + length (decimal_of n) ≤ length digits
     front_fits = omega (arith, length_le 7 n (omega arith))
 
     module _ (r : ℕ) (after : List ℕ) (w : Wrote digits 0 (decimal_of n) r after) where
       pub front_length : r ≡ counted_length digits n
-      front_length = let e : r ≡ length (decimal_of n) = omega (arith, w.place) in e ∙ sym (length_in (keepable h l))
+      front_length = let e : r ≡ length (decimal_of n) = omega (arith, w.place) in e ∙ sym (length_in (keepable h (omega arith)))
 
       pub front_digits : after ≡ counted_digits digits n
-      front_digits = w.bytes ∙ sym (digits_in (keepable h l))
+      front_digits = w.bytes ∙ sym (digits_in (keepable h (omega arith)))
 
   -- counting from n keeps the digits of n, and as many bytes as before
   pub counted_start : counted (counted_digits digits n) (counted_length digits n) n ≡ decimal_of n
@@ -152,12 +137,6 @@ module _ (digits : List ℕ) (n : ℕ) where
       ∙ ap (λ (m : ℕ). take m (put digits 0 (decimal_of n))) (let z : length (decimal_of n) ≡ 0 + length (decimal_of n) = omega arith in z)
       ∙ take_put digits 0 (decimal_of n) fits)
       (λ h. ap (λ (m : ℕ). counted (counted_digits digits n) m n) (length_out h) ∙ no_length (counted_digits digits n) n)
-
-  pub length_start : length (counted_digits digits n) ≡ length digits
-  length_start =
-      by_test (is_keepable (length digits) n)
-      (λ h. ap length (digits_in h) ∙ length_put digits 0 (decimal_of n) (front_fits (keep_small h) (keep_room h)))
-      (λ h. ap length (digits_out h))
 
 -- ---- the next number
 
@@ -217,14 +196,9 @@ module _ (digits : List ℕ) (len n : ℕ) where
         pub anew_length : g ≡ false → (m : ℕ) → m ≡ counted_length more n → m ≡ length_on digits len n
         anew_length l m w = w ∙ ap (λ (d : List ℕ). counted_length d n) added ∙ sym (on_anew_length kept (sym grown ∙ l))
 
-  pub length_on_lem : length (digits_on digits len n) ≡ length digits
-  length_on_lem =
-      by_test (is_kept (length digits) len)
-      (λ h.
-      by_test (is_grown len digits)
-      (λ g. ap length (on_grown_digits h g) ∙ more_length len digits)
-      (λ g. ap length (on_anew_digits h g) ∙ length_start (one_more len digits) n ∙ more_length len digits))
-      (λ h. ap length (on_none_digits h))
+-- the same bytes, as many of which are kept
+pub same_digits : {d e : Digits} → d.len ≡ e.len → d.bytes ≡ e.bytes → d ≡ e
+same_digits l b = λ i. record { bytes = b i; len = l i }
 
 -- counting on keeps the digits of the next number
 pub counted_on : (digits : List ℕ) (len n : ℕ) → counted digits len n ≡ decimal_of n → counted (digits_on digits len (n + 1)) (length_on digits len (n + 1)) (n + 1) ≡ decimal_of (n + 1)
@@ -336,20 +310,20 @@ module _ (digits : List ℕ) (len n : ℕ) where
       some : is_kept (length digits) len ≡ true
       some = asked_kept (length digits) len k e t
 
-      pub eight_room : at + 8 ≤ length d
-      eight_room = omega arith
-
-      pub eight_enough : 8 ≤ length digits
-      eight_enough = kept_room (length digits) len some
-
       pub number_room : at + len ≤ length d
       number_room = omega (arith, kept_short (length digits) len some)
 
       pub number_place : at + len ≡ at + length (counted digits len n)
       number_place = ap (λ (m : ℕ). at + m) (sym (length_kept some))
 
-      pub eight_bytes : (d₁ : List ℕ) → d₁ ≡ put d at (take 8 digits) → d₁ ≡ put d at (first_written digits len n)
-      eight_bytes d₁ v = v ∙ ap (put d at) (sym (first_kept some))
+      -- all the bytes that are kept were written
+      pub eight_put : (q : ℕ) (d₁ : List ℕ) → length digits ≡ 8 → Wrote d at digits q d₁ → d₁ ≡ put d at (first_written digits len n)
+      eight_put q d₁ l w =
+          let whole : take 8 digits ≡ digits = ap (λ (m : ℕ). take m digits) (sym l) ∙ take-length digits in
+          w.bytes ∙ ap (put d at) (sym (first_kept some ∙ whole))
+
+      pub eight_room : length digits ≡ 8 → at + length digits ≤ length d
+      eight_room l = omega arith
 
 -- ---- the line
 
@@ -358,7 +332,7 @@ module _ (digits : List ℕ) (len n number : ℕ) (first : ℤ) (second accepted
   pub counted_line : counted digits len n ≡ decimal_of n → line_with (counted digits len n) number first second accepted rejected ≡ line_of n number first second accepted rejected
   counted_line e = ap (λ (s : List ℕ). line_with s number first second accepted rejected) e ∙ sym (line_with_lem number first second accepted rejected n)
 
-  -- the code found room, r; it hands on the bits of `first`
+  -- the code found room, r
   module _ (d : List ℕ) (at : ℕ) (r : Bool) (e : r ≡ leb (at + 89) (length d)) (t : not r ≡ false) where
     inside : at + 89 ≤ length d
     inside = ends_in r at 89 (length d) e t
@@ -367,27 +341,23 @@ module _ (digits : List ℕ) (len n number : ℕ) (first : ℤ) (second accepted
     first_room = omega (arith, inside)
 
     -- the first field was written, and then the tail over the bytes behind it
-    module _ (p : ℕ) (d₁ : List ℕ) (u : p ≡ at + length (counted digits len n)) (v : d₁ ≡ put d at (first_written digits len n)) (f : Fits w64 n) (f₂ : SFits w64 first) where
-      pub tail_room : Fits w8 number → Fits w64 second → Fits w32 accepted → Fits w32 rejected → p + length (tail_of number (to_z w64 (of_z w64 first)) second accepted rejected) ≤ length d₁
-      tail_room f₁ f₃ f₄ f₅ =
-          let short = tail_short number first second accepted rejected (omega arith) (nat_abs-le first f₂.sfits) (omega arith) (omega arith) (omega arith) in
+    module _ (p : ℕ) (d₁ : List ℕ) (u : p ≡ at + length (counted digits len n)) (v : d₁ ≡ put d at (first_written digits len n)) (f : Fits w64 n) where
+      pub tail_room : p + 69 ≤ length d₁
+      tail_room =
           let few = counted_few digits len n (omega arith) in
           let long : length d₁ ≡ length d = ap length v ∙ length_put d at (first_written digits len n) (omega (arith, inside, first_few digits len n (omega arith))) in
-          rw (to_z-of_z f₂) (omega (arith, inside))
+          omega (arith, inside)
 
-      module _ (q : ℕ) (d₂ : List ℕ) (w : Wrote d₁ p (tail_of number (to_z w64 (of_z w64 first)) second accepted rejected) q d₂) where
-        tail_w : Wrote d₁ p (tail_of number first second accepted rejected) q d₂
-        tail_w = rw (to_z-of_z f₂) at w
-
+      module _ (q : ℕ) (d₂ : List ℕ) (w : Wrote d₁ p (tail_of number first second accepted rejected) q d₂) where
         pub over_length : q - at ≡ ample_fitted d at (line_with (counted digits len n) number first second accepted rejected)
         over_length =
             let l : q - at ≡ length (line_with (counted digits len n) number first second accepted rejected) =
-            omega (arith, tail_w.place, length_with number first second accepted rejected (counted digits len n)) in
+            omega (arith, w.place, length_with number first second accepted rejected (counted digits len n)) in
             l ∙ sym (ample_length d at (line_with (counted digits len n) number first second accepted rejected) inside)
 
         pub over_bytes : d₂ ≡ ample_placed d at (line_with (counted digits len n) number first second accepted rejected)
         over_bytes =
-            tail_w.bytes
+            w.bytes
             ∙ ap₂ (λ (b : List ℕ) (m : ℕ). put b m (tail_of number first second accepted rejected)) v u
             ∙ put_first digits len n (omega arith) d at (tail_of number first second accepted rejected) first_room (tail_some number first second accepted rejected)
             ∙ ap (put d at) (sym (with_tail number first second accepted rejected (counted digits len n)))

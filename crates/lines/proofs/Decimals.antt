@@ -59,6 +59,10 @@ length_is (suc k) n l h =
     let ih : suc k ≡ length (decimal_of (n / 10)) = length_is k (n / 10) (omega arith) (omega arith) in
     omega (arith, length_more n (omega arith))
 
+-- the same as the library's logarithm has it
+pub length_log : (k n : ℕ) → 10 ^ k ≤ n → n < 10 * 10 ^ k → k + 1 ≡ length (decimal_of n)
+length_log k n l h = let p : 10 ^ suc k ≡ 10 ^ k * 10 = pow-suc 10 k in omega (arith, length_is k n l (omega arith))
+
 -- k + 1 digits at most
 pub length_le : (k n : ℕ) → n < 10 ^ suc k → length (decimal_of n) ≤ suc k
 length_le zero n h = omega (arith, length_small n h)

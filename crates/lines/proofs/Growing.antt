@@ -151,9 +151,6 @@ pub record Growing (digits₀ : List ℕ) (len : ℕ) (digits : List ℕ) (i : �
   pub more : one_more i digits ≡ one_more len digits₀
   pub grown : is_grown i digits ≡ is_grown len digits₀
 
-pub growing_start : (digits : List ℕ) (len : ℕ) → len ≤ length digits → Growing digits len digits len
-growing_start digits len h = record { long = refl; inside = h; more = refl; grown = refl }
-
 module _ (digits₀ : List ℕ) (len : ℕ) (digits : List ℕ) (i : ℕ) (g : Growing digits₀ len digits i) where
   module _ (h : 0 < i) where
     pub growing_inside : i - 1 < length digits

@@ -1,31 +1,23 @@
 -- The line of a record that gave a number and no more: two numbers and four zeros, written one behind the other.
-use mathlib.Core.Path.{◌≡◌, refl, sym, ◌∙◌}
+use mathlib.Core.Path.{◌≡◌, sym, ◌∙◌}
 use mathlib.Core.Bool.{Bool, true, false, not}
 use mathlib.Core.List.{List, [], ◌∷◌, ◌++◌, append_assoc}
 use Prim.Native.Nat.{ℕ, ◌+◌, ◌-◌, ◌≤◌, ◌<◌}
 use native.Mathlib.Omega.{arith}
 use lib.Dec.{leb}
 use lib.IntN.{pos}
-use lib.ListN.{length, set}
+use lib.ListN.{length}
 use Rattle.kit.specs.Lists.{placed}
 use Rattle.kit.proofs.Fields.{ends_in, ends_out}
-use Rattle.kit.proofs.Puts.{placed_in, placed_out, put_one}
+use Rattle.kit.proofs.Puts.{placed_in, placed_out}
 use Rattle.lines.specs.Lines.{digits_of, decimal_of, signed_of, field, line_of, fitted, Wrote}
-use Rattle.lines.proofs.Tails.{put_next}
-use Rattle.lines.proofs.Writes.{wrote_both, room_one, room_two, room_three, wrote_three, fitted_in, fitted_out, length_line}
+use Rattle.lines.proofs.Writes.{room_one, room_two, room_three, wrote_three, fitted_in, fitted_out, length_line}
 
 -- ---- four zeros
 
 -- `0 0 0 0`
 abbrev four_zeros : List ℕ
 four_zeros = 48 ∷ 32 ∷ 48 ∷ 32 ∷ 48 ∷ 32 ∷ 48 ∷ []
-
--- one, and then three
-pub four_wrote : (d : List ℕ) (at : ℕ) → at + 8 ≤ length d → (q : ℕ) (d₁ : List ℕ) → Wrote (set (set d at 48) (at + 1) 32) (at + 2) (48 ∷ 32 ∷ 48 ∷ 32 ∷ 48 ∷ 10 ∷ []) q d₁
-    → Wrote d at (48 ∷ 32 ∷ 48 ∷ 32 ∷ 48 ∷ 32 ∷ 48 ∷ 10 ∷ []) q d₁
-four_wrote d at h q d₁ w =
-    wrote_both d at (48 ∷ 32 ∷ []) (48 ∷ 32 ∷ 48 ∷ 32 ∷ 48 ∷ 10 ∷ []) h (at + 2) q (set (set d at 48) (at + 1) 32) d₁
-    (record { place = refl; bytes = put_next d at (at + 1) (48 ∷ []) 32 _ refl (omega arith) (sym (put_one d at 48 (omega arith))) }) w
 
 -- ---- the line
 

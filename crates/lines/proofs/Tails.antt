@@ -1,52 +1,35 @@
 -- What stands behind the first field of a line: three zeros written at once, and the fields written over the bytes behind the number.
 use mathlib.Core.Path.{◌≡◌, refl, sym, ap, ap₂, ◌∙◌}
-use mathlib.Core.Bool.{Bool, true, ◌&&◌}
 use mathlib.Core.List.{List, [], ◌∷◌, ◌++◌, append_assoc}
 use Prim.Native.Nat.{ℕ, ◌+◌, ◌-◌, ◌^◌, ◌≤◌, ◌<◌}
 use native.Mathlib.Omega.{arith}
-use borrow.Author.Tests.{eqb-true}
-use lib.Dec.{eqb}
+use borrow.Rule.Slice.PartMut.{put_mid}
 use lib.IntN.{ℤ, nat_abs}
-use lib.ListN.{length, take, drop, set, length-append, take-append-drop}
+use lib.ListN.{length, take, drop, set, length-append, length-set, take-append-drop}
 use lib.Seq.{length-take-le, take_at, drop-append-add, drop-drop}
-use mir.Syntax.{w64}
-use mir.Val.{SFits, to_z, of_z}
+use mir.Syntax.{w8, w32, w64}
+use lib.Signed.{nat_abs-le}
+use mir.Val.{Fits, SFits, to_z, of_z}
 use mir.Facts.{to_z-of_z}
 use Rattle.kit.specs.Lists.{put}
-use Rattle.kit.proofs.Bools.{and_left, and_right}
-use Rattle.kit.proofs.Puts.{length_put, put_put, put_one}
+use Rattle.kit.proofs.Puts.{length_put, put_put, put_one, put_part}
 use Rattle.lines.specs.Lines.{digits_of, decimal_of, signed_of, field, line_of, back_of, Wrote}
 use Rattle.lines.specs.Counts.{line_with, tail_of}
 use Rattle.lines.proofs.Decimals.{length_some, length_le}
 use Rattle.lines.proofs.Signs.{signed_le}
-use Rattle.lines.proofs.Writes.{length_field, wrote_both, room_next}
+use Rattle.lines.proofs.Writes.{length_field, wrote_long, wrote_both, room_next}
 
 -- ---- three zeros
 
--- one byte more, behind those that were put
-pub put_next : (d : List ℕ) (at p : ℕ) (e : List ℕ) (x : ℕ) (d₁ : List ℕ) → p ≡ at + length e → p < length d → d₁ ≡ put d at e → set d₁ p x ≡ put d at (e ++ (x ∷ []))
-put_next d at p e x d₁ q h w =
-    let long : length (put d at e) ≡ length d = length_put d at e (omega arith) in
-    ap (λ (b : List ℕ). set b p x) w ∙ sym (put_one (put d at e) p x (omega arith)) ∙ put_put d at p e (x ∷ []) q (omega arith)
+-- a piece that was copied into a part
+pub part_wrote : (d e f : List ℕ) (at n : ℕ) → n ≡ length e → f ≡ e → Wrote d at e (at + n) (put_mid at (at + n - at) d f)
+part_wrote d e f at n h w = record { place = ap (λ (m : ℕ). at + m) h; bytes = put_part d e f at n h w }
 
-pub zeros_wrote : (d : List ℕ) (at : ℕ) → at + 6 ≤ length d
-    → Wrote d at (48 ∷ 32 ∷ 48 ∷ 32 ∷ 48 ∷ 10 ∷ []) (at + 6) (set (set (set (set (set (set d at 48) (at + 1) 32) (at + 2) 48) (at + 3) 32) (at + 4) 48) (at + 5) 10)
-zeros_wrote d at h =
-    let s₁ = sym (put_one d at 48 (omega arith)) in
-    let s₂ = put_next d at (at + 1) (48 ∷ []) 32 _ refl (omega arith) s₁ in
-    let s₃ = put_next d at (at + 2) (48 ∷ 32 ∷ []) 48 _ refl (omega arith) s₂ in
-    let s₄ = put_next d at (at + 3) (48 ∷ 32 ∷ 48 ∷ []) 32 _ refl (omega arith) s₃ in
-    let s₅ = put_next d at (at + 4) (48 ∷ 32 ∷ 48 ∷ 32 ∷ []) 48 _ refl (omega arith) s₄ in
-    record { place = refl; bytes = put_next d at (at + 5) (48 ∷ 32 ∷ 48 ∷ 32 ∷ 48 ∷ []) 10 _ refl (omega arith) s₅ }
-
--- the last fields of a line, where the code asked whether all are 0, r
-module _ (second accepted rejected : ℕ) (r : Bool) (e : r ≡ (eqb second 0 && (eqb accepted 0 && eqb rejected 0))) (t : r ≡ true) where
+-- the last fields of a line, where all are 0
+module _ (second accepted rejected : ℕ) (e : second ≡ 0) (f : accepted ≡ 0) (g : rejected ≡ 0) where
   zeros_are : back_of second accepted rejected ≡ (48 ∷ 32 ∷ 48 ∷ 32 ∷ 48 ∷ 10 ∷ [])
   unfolding field decimal_of digits_of
-  zeros_are =
-      let h : (eqb second 0 && (eqb accepted 0 && eqb rejected 0)) ≡ true = sym e ∙ t in
-      let k : (eqb accepted 0 && eqb rejected 0) ≡ true = and_right (eqb second 0) _ h in
-      rw (eqb-true second 0 (and_left _ _ h), eqb-true accepted 0 (and_left _ (eqb rejected 0) k), eqb-true rejected 0 (and_right (eqb accepted 0) _ k))
+  zeros_are = rw (e, f, g)
 
   module _ (d : List ℕ) (at : ℕ) where
     pub zeros_room : at + length (back_of second accepted rejected) ≤ length d → at + 6 ≤ length d
@@ -122,6 +105,27 @@ module _ (number : ℕ) (first : ℤ) (second accepted rejected : ℕ) where
       → length (line_with bytes number first second accepted rejected) ≤ 89
   with_short bytes h₁ h₂ h₃ h₄ h₅ h₆ = omega (arith, length_with bytes, tail_short h₂ h₃ h₄ h₅ h₆)
 
+  -- so it fits where 69 bytes do
+  pub tail_fits : (d : List ℕ) (at : ℕ) → at + 69 ≤ length d → Fits w8 number → SFits w64 first → Fits w64 second → Fits w32 accepted → Fits w32 rejected
+      → at + length (tail_of number first second accepted rejected) ≤ length d
+  tail_fits d at h f₁ f₂ f₃ f₄ f₅ =
+      let short = tail_short (omega arith) (nat_abs-le first f₂.sfits) (omega arith) (omega arith) (omega arith) in
+      omega arith
+
+  -- and so do the number and the first result before it is known that the rest does
+  module _ (d : List ℕ) (at : ℕ) (h : at + 69 ≤ length d) (f₁ : Fits w8 number) where
+    pub number_fits : at + 1 + length (decimal_of number) < length (set d at 32)
+    number_fits = let l = length_le 2 number (omega arith) in omega (arith, length-set d at 32)
+
+    pub signed_fits : SFits w64 first → (p : ℕ) (d₁ : List ℕ) → Wrote (set d at 32) (at + 1) (field (decimal_of number) 32) p d₁ → p + length (signed_of (to_z w64 (of_z w64 first))) < length d₁
+    signed_fits f₂ p d₁ u =
+        let l₂ = length_le 2 number (omega arith) in
+        let l₃ = signed_le first (nat_abs-le first f₂.sfits) in
+        let s = length-set d at 32 in
+        let f = length_field (decimal_of number) 32 in
+        let w = wrote_long (set d at 32) (at + 1) (field (decimal_of number) 32) (omega arith) p d₁ u in
+        rw (to_z-of_z f₂) (omega (arith, u.place))
+
   -- written: the space, and the fields one behind the other
   module _ (d : List ℕ) (at : ℕ) (room : at + length (tail_of number first second accepted rejected) ≤ length d) where
     rest : List ℕ
@@ -137,21 +141,10 @@ module _ (number : ℕ) (first : ℤ) (second accepted rejected : ℕ) where
     unfolding rest
     rest_room = room_next d at (32 ∷ []) rest room (at + 1) (set d at 32) blank_wrote
 
-    pub tail_number : at + 1 + length (decimal_of number) < length (set d at 32)
-    unfolding rest
-    tail_number =
-        let a = length-append (field (decimal_of number) 32) (field (signed_of first) 32 ++ back_of second accepted rejected) in
-        omega (arith, rest_room, length_field (decimal_of number) 32)
-
     module _ (fit : SFits w64 first) (p : ℕ) (d₁ : List ℕ) (u : Wrote (set d at 32) (at + 1) (field (decimal_of number) 32) p d₁) where
       signed_room : p + length (field (signed_of first) 32 ++ back_of second accepted rejected) ≤ length d₁
       unfolding rest
       signed_room = room_next (set d at 32) (at + 1) (field (decimal_of number) 32) (field (signed_of first) 32 ++ back_of second accepted rejected) rest_room p d₁ u
-
-      pub tail_signed : p + length (signed_of (to_z w64 (of_z w64 first))) < length d₁
-      tail_signed =
-          let a = length-append (field (signed_of first) 32) (back_of second accepted rejected) in
-          rw (to_z-of_z fit) (omega (arith, signed_room, length_field (signed_of first) 32))
 
       module _ (q : ℕ) (d₂ : List ℕ) (v : Wrote d₁ p (field (signed_of (to_z w64 (of_z w64 first))) 32) q d₂) where
         signed_wrote : Wrote d₁ p (field (signed_of first) 32) q d₂

@@ -1,5 +1,5 @@
 -- What the writers' code writes: digits from the last to the first, and fields one behind the other.
-use mathlib.Core.Path.{◌≡◌, refl, sym, ap, ◌∙◌}
+use mathlib.Core.Path.{◌≡◌, refl, sym, ap, ap₂, ◌∙◌}
 use mathlib.Core.Bool.{true, false}
 use mathlib.Core.List.{List, [], ◌∷◌, ◌++◌}
 use Prim.Native.Nat.{ℕ, suc, ◌+◌, ◌-◌, ◌/◌, ◌%◌, ◌≤◌, ◌<◌}
@@ -11,9 +11,10 @@ use lib.ListN.{length, set, length-append, length-set}
 use mir.Syntax.{w64}
 use mir.Val.{SFits, to_z, of_z}
 use Rattle.kit.specs.Lists.{put}
+use Rattle.kit.proofs.Bools.{by_lt}
 use Rattle.kit.proofs.Puts.{length_put, put_put, put_one, put_last}
 use Rattle.lines.specs.Lines.{decimal_of, signed_of, field, line_of, fitted, Wrote}
-use Rattle.lines.proofs.Decimals.{decimal_small, decimal_more, length_small, length_more}
+use Rattle.lines.proofs.Decimals.{decimal_small, decimal_more, length_small, length_more, length_some}
 use Rattle.lines.proofs.Signs.{signed_plus, signed_minus}
 
 -- ---- the digits of a number: what is left to write are those of `rest`, which end at i
@@ -24,33 +25,50 @@ pub record Left (d₀ : List ℕ) (at n : ℕ) (d : List ℕ) (i rest : ℕ) : T
   pub long : length d ≡ length d₀
   pub bytes : put d at (decimal_of rest) ≡ put d₀ at (decimal_of n)
 
-pub left_start : (d : List ℕ) (at n k : ℕ) → k ≡ length (decimal_of n) → at + length (decimal_of n) ≤ length d → Left d at n d (at + k) n
-left_start d at n k e h = record { place = omega arith; inside = omega arith; long = refl; bytes = refl }
+-- before each digit, from the last to the first: those of `rest` are left to write; at the place of the first one, none are
+pub record Behind (d₀ : List ℕ) (at n : ℕ) (d : List ℕ) (i rest : ℕ) : Type 0 where
+  pub left : at < i → Left d₀ at n d i rest
+  pub over : i ≤ at → d ≡ put d₀ at (decimal_of n)
 
-pub left_turn : (d₀ d : List ℕ) (at n i rest : ℕ) → 10 ≤ rest → Left d₀ at n d i rest → Left d₀ at n (set d (i - 1) (48 + rest % 10)) (i - 1) (rest / 10)
-left_turn d₀ d at n i rest h l =
-    let q = length_more rest h in
-    let p : i - 1 ≡ at + length (decimal_of (rest / 10)) = omega (arith, l.place) in
-    record {
-      place = p;
-      inside = omega (arith, l.inside);
-      long = length-set d (i - 1) (48 + rest % 10) ∙ l.long;
-      bytes =
-          ap (λ (k : ℕ). put (set d k (48 + rest % 10)) at (decimal_of (rest / 10))) p
-          ∙ put_last d at (decimal_of (rest / 10)) (48 + rest % 10) (omega (arith, l.place, l.inside, l.long))
-          ∙ ap (put d at) (sym (decimal_more rest h))
-          ∙ l.bytes;
-    }
+pub left_start : (d : List ℕ) (at n k : ℕ) → k ≡ length (decimal_of n) → at + length (decimal_of n) ≤ length d → Behind d at n d (at + k) n
+left_start d at n k e h =
+    record { left = λ l. record { place = omega arith; inside = omega arith; long = refl; bytes = refl }; over = λ l. let s = length_some n in absurd (omega arith) }
 
-pub left_end : (d₀ d : List ℕ) (at n k i rest : ℕ) → k ≡ length (decimal_of n) → rest < 10 → Left d₀ at n d i rest → Wrote d₀ at (decimal_of n) (at + k) (set d at (48 + rest))
-left_end d₀ d at n k i rest e h l =
+pub left_turn : (d₀ d : List ℕ) (at n i rest : ℕ) → at < i → Behind d₀ at n d i rest → Behind d₀ at n (set d (i - 1) (48 + rest % 10)) (i - 1) (rest / 10)
+left_turn d₀ d at n i rest g b =
+    let l = b.left g in
+    by_lt rest 10
+    (λ h.
+    let p : i - 1 ≡ at = omega (arith, l.place, length_small rest h) in
+    let r : rest % 10 ≡ rest = omega arith in
     record {
-      place = ap (λ (m : ℕ). at + m) e;
-      bytes =
-          sym (put_one d at (48 + rest) (omega (arith, l.place, l.inside, l.long, length_small rest h)))
+      left = λ k. absurd (omega arith);
+      over = λ k.
+          ap₂ (λ (j x : ℕ). set d j (48 + x)) p r
+          ∙ sym (put_one d at (48 + rest) (omega (arith, l.place, l.inside, l.long, length_small rest h)))
           ∙ ap (put d at) (sym (decimal_small rest h))
           ∙ l.bytes;
-    }
+    })
+    (λ h.
+    let q = length_more rest h in
+    let s = length_some (rest / 10) in
+    let p : i - 1 ≡ at + length (decimal_of (rest / 10)) = omega (arith, l.place) in
+    record {
+      left = λ k. record {
+        place = p;
+        inside = omega (arith, l.inside);
+        long = length-set d (i - 1) (48 + rest % 10) ∙ l.long;
+        bytes =
+            ap (λ (k : ℕ). put (set d k (48 + rest % 10)) at (decimal_of (rest / 10))) p
+            ∙ put_last d at (decimal_of (rest / 10)) (48 + rest % 10) (omega (arith, l.place, l.inside, l.long))
+            ∙ ap (put d at) (sym (decimal_more rest h))
+            ∙ l.bytes;
+      };
+      over = λ k. absurd (omega arith);
+    })
+
+pub left_end : (d₀ d : List ℕ) (at n k i rest : ℕ) → k ≡ length (decimal_of n) → i ≤ at → Behind d₀ at n d i rest → Wrote d₀ at (decimal_of n) (at + k) d
+left_end d₀ d at n k i rest e h b = record { place = ap (λ (m : ℕ). at + m) e; bytes = b.over h }
 
 pub digit_room : (d : List ℕ) (at n : ℕ) → n < 10 → at + length (decimal_of n) ≤ length d → at < length d
 digit_room d at n h l = omega (arith, length_small n h)

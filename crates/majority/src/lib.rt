@@ -5,6 +5,7 @@ ghost use Rattle.std.specs.Prelude.{◌≡◌};
 ghost use Rattle.majority.specs.Majority.{majority, blocking};
 
 // How many OK voters accept, of n sites.
+#[tactic(auto, unfolding(crate::specs::Majority::majority))]
 pub fn to_accept(n: u8) -> u8
     ensures { result ≡ majority n }
 {
@@ -12,12 +13,9 @@ pub fn to_accept(n: u8) -> u8
 }
 
 // How many DR and REJ voters reject, of n sites: so many that no majority is left.
+#[tactic(auto, unfolding(crate::specs::Majority::majority, crate::specs::Majority::blocking))]
 pub fn to_reject(n: u8) -> u8
     ensures { result ≡ blocking n }
 {
-    let m = to_accept(n);
-    if n < m {
-        return 1;
-    }
-    n - m + 1
+    n.saturating_sub(to_accept(n)) + 1
 }

@@ -2,6 +2,7 @@
 use Rattle.std.proofs.Common.{refl}
 use Rattle.outcomes.specs.Outcomes.{OneOutcome}
 use Rattle.outcomes.proofs.Same.{as_one, part_by_part}
+use Rattle.house.proofs.Told.{same_printed}
 use Rattle.house.proofs.vundrelt_night_length.Kinds as vundrelt_night_length_kinds
 use Rattle.house.proofs.vundrelt_night_length.Reads as vundrelt_night_length_reads
 use Rattle.house.proofs.vundrelt_night.Kinds as vundrelt_night_kinds
@@ -37,4 +38,4 @@ one_night_length κs a r r' w w' p q = (as_one p q, refl)
 
 -- house::night::print_night
 pub one_print_night : OneOutcome print_night_kinds.ps print_night_kinds.r print_night_reads.Learnt
-one_print_night κs a r r' w w' p q = (as_one p.0 q.0, part_by_part refl (part_by_part (as_one p.1 q.1) refl))
+one_print_night κs a r r' w w' p q = (same_printed r r' (as_one p.0 q.0), part_by_part refl (part_by_part (as_one p.1 q.1) refl))

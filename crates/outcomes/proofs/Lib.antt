@@ -10,6 +10,7 @@ pub mod Plans
 pub mod Pool
 pub mod Readings
 pub mod Record
+pub mod Refusals
 pub mod Sets
 pub mod Sitefile
 pub mod Stamps

@@ -18,8 +18,6 @@ use Rattle.stamps.proofs.largest_time.Kinds as largest_time_kinds
 use Rattle.stamps.proofs.largest_time.Reads as largest_time_reads
 use Rattle.stamps.proofs.next_time.Kinds as next_time_kinds
 use Rattle.stamps.proofs.next_time.Reads as next_time_reads
-use Rattle.stamps.proofs.issue_number.Kinds as issue_number_kinds
-use Rattle.stamps.proofs.issue_number.Reads as issue_number_reads
 use Rattle.stamps.proofs.issue_stamp.Kinds as issue_stamp_kinds
 use Rattle.stamps.proofs.issue_stamp.Reads as issue_stamp_reads
 
@@ -54,10 +52,6 @@ one_largest_time κs a r r' w w' p q = (as_one p.0 q.0, refl)
 -- stamps::next_time
 pub one_next_time : OneOutcome next_time_kinds.ps next_time_kinds.r next_time_reads.Learnt
 one_next_time κs a r r' w w' p q = (as_one p q, refl)
-
--- stamps::issue_number
-pub one_issue_number : OneOutcome issue_number_kinds.ps issue_number_kinds.r issue_number_reads.Learnt
-one_issue_number κs a r r' w w' p q = (as_one p q, refl)
 
 -- stamps::issue_stamp
 pub one_issue_stamp : OneOutcome issue_stamp_kinds.ps issue_stamp_kinds.r issue_stamp_reads.Learnt

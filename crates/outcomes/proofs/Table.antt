@@ -2,12 +2,6 @@
 use Rattle.std.proofs.Common.{refl}
 use Rattle.outcomes.specs.Outcomes.{OneOutcome}
 use Rattle.outcomes.proofs.Same.{as_one}
-use Rattle.table.proofs.blank.are_zero_stamps.Kinds as are_zero_stamps_kinds
-use Rattle.table.proofs.blank.are_zero_stamps.Reads as are_zero_stamps_reads
-use Rattle.table.proofs.blank.are_zero_places.Kinds as are_zero_places_kinds
-use Rattle.table.proofs.blank.are_zero_places.Reads as are_zero_places_reads
-use Rattle.table.proofs.blank.are_zero_values.Kinds as are_zero_values_kinds
-use Rattle.table.proofs.blank.are_zero_values.Reads as are_zero_values_reads
 use Rattle.table.proofs.blank.is_blank_vote.Kinds as is_blank_vote_kinds
 use Rattle.table.proofs.blank.is_blank_vote.Reads as is_blank_vote_reads
 use Rattle.table.proofs.blank.is_blank_request.Kinds as is_blank_request_kinds
@@ -26,8 +20,6 @@ use Rattle.table.proofs.fresh.fresh.Kinds as fresh_kinds
 use Rattle.table.proofs.fresh.fresh.Reads as fresh_reads
 use Rattle.table.proofs.marks.lasts_of.Kinds as lasts_of_kinds
 use Rattle.table.proofs.marks.lasts_of.Reads as lasts_of_reads
-use Rattle.table.proofs.marks.ballots_of.Kinds as ballots_of_kinds
-use Rattle.table.proofs.marks.ballots_of.Reads as ballots_of_reads
 use Rattle.table.proofs.requests.are_sets_allowed.Kinds as are_sets_allowed_kinds
 use Rattle.table.proofs.requests.are_sets_allowed.Reads as are_sets_allowed_reads
 use Rattle.table.proofs.requests.are_base_stamps_allowed.Kinds as are_base_stamps_allowed_kinds
@@ -38,18 +30,6 @@ use Rattle.table.proofs.requests.is_request_allowed.Kinds as is_request_allowed_
 use Rattle.table.proofs.requests.is_request_allowed.Reads as is_request_allowed_reads
 use Rattle.table.proofs.sound.sound.Kinds as sound_kinds
 use Rattle.table.proofs.sound.sound.Reads as sound_reads
-
--- table::blank::are_zero_stamps
-pub one_are_zero_stamps : OneOutcome are_zero_stamps_kinds.ps are_zero_stamps_kinds.r are_zero_stamps_reads.Learnt
-one_are_zero_stamps κs a r r' w w' p q = (as_one p q, refl)
-
--- table::blank::are_zero_places
-pub one_are_zero_places : OneOutcome are_zero_places_kinds.ps are_zero_places_kinds.r are_zero_places_reads.Learnt
-one_are_zero_places κs a r r' w w' p q = (as_one p q, refl)
-
--- table::blank::are_zero_values
-pub one_are_zero_values : OneOutcome are_zero_values_kinds.ps are_zero_values_kinds.r are_zero_values_reads.Learnt
-one_are_zero_values κs a r r' w w' p q = (as_one p q, refl)
 
 -- table::blank::is_blank_vote
 pub one_is_blank_vote : OneOutcome is_blank_vote_kinds.ps is_blank_vote_kinds.r is_blank_vote_reads.Learnt
@@ -86,10 +66,6 @@ one_fresh κs a r r' w w' p q = (as_one p q, refl)
 -- table::marks::lasts_of
 pub one_lasts_of : OneOutcome lasts_of_kinds.ps lasts_of_kinds.r lasts_of_reads.Learnt
 one_lasts_of κs a r r' w w' p q = (as_one p q, refl)
-
--- table::marks::ballots_of
-pub one_ballots_of : OneOutcome ballots_of_kinds.ps ballots_of_kinds.r ballots_of_reads.Learnt
-one_ballots_of κs a r r' w w' p q = (as_one p q, refl)
 
 -- table::requests::are_sets_allowed
 pub one_are_sets_allowed : OneOutcome are_sets_allowed_kinds.ps are_sets_allowed_kinds.r are_sets_allowed_reads.Learnt

@@ -1,74 +1,67 @@
--- Where the pieces are, as the code finds them: an index that is there, the site of a digit, the first place of a kind, and the lowest of a set.
-use Prim.Native.Nat.{ℕ, zero, suc, ◌-◌, ◌^◌, ◌<◌, ◌≤◌}
-use mathlib.Core.Bool.{not}
-use mathlib.Core.List.{List}
-use mathlib.Core.Path.{◌≡◌, refl, sym, ap, ◌∙◌}
-use native.Mathlib.Omega.{arith}
-use borrow.Author.Tests.{eq-eqb, ne_eqb, le-leb, lt-leb}
-use lib.Count.{count_trailing_zeros}
-use lib.Dec.{eqb}
-use lib.ListN.{get_or}
-use Rattle.kit.specs.Range.{first}
-use Rattle.kit.proofs.Bools.{clash, by_eq, by_lt}
-use Rattle.kit.proofs.Ranges.{none_of, first_is, first_none, first_le}
-use Rattle.sets.specs.Sets.{member}
-use Rattle.sets.proofs.Laws.{above, member_none}
-use Rattle.sets.proofs.Lowest.{lower, lowest}
-use Rattle.plans.specs.Pieces.{within, site_index, free_in, place_in, free_message_in}
+-- Where the first that passes stands, as the library finds it and as document 01's numbers say it.
+use Rattle.std.proofs.Common.{Some, None, ◌≤◌, ◌<◌, ◌≡◌, ℕ, Bool, true, false, List, length, get_or, refl, arith}
+use mathlib.Core.Path.{◌∙◌}
+use borrow.Author.Tests.{eq-eqb, ne_eqb, lt-ltb, le-ltb}
+use Rattle.std.specs.Prelude.{◌==◌, Option, eqb, not}
+use Rattle.std.specs.List.{position_from, position_or_len}
+use Rattle.std.proofs.lemmas.Iterator.Adapters.{position_from-zero}
+use Rattle.std.proofs.lemmas.List.Sums.{position_or_len_is}
+use Rattle.kit.specs.Range.{any, first}
+use Rattle.kit.proofs.Bools.{by_test, by_lt}
+use Rattle.kit.proofs.Ranges.{any_at, first_hit, first_le, first_none, first_same}
+use Rattle.vote.specs.Data.{no_request, request_at}
+use Rattle.vote.specs.declared.data.Request.{Request}
+use Rattle.plans.specs.Pieces.{found, free_in, place_in}
 
--- ---- an index that is there
+module _ {X : Type 0} (p : X → Bool) (xs : List X) (n : ℕ) (d : X) (e : length xs ≡ n) where
+  abbrev passes : ℕ → Bool
+  passes k = p (get_or xs k d)
 
-pub within_low : (i last : ℕ) → i ≤ last → i ≡ within i last
-unfolding within
-within_low i last h = rw (le-leb i last h)
+  first_elements : position_or_len p xs ≡ first n passes
+  first_elements =
+      by_test (any n passes)
+      (λ t. let h = first_hit n passes t in position_or_len_is p xs (first n passes) d (omega (arith, h.0)) (λ k l. any_at passes (first n passes) k h.2 l) (λ l. h.1))
+      (λ f. let h = first_none n passes f in position_or_len_is p xs (first n passes) d (omega (arith, h)) (λ k l. any_at passes n k f (omega (arith, h))) (λ l. absurd (omega (arith, h))))
 
-pub within_high : (i last : ℕ) → last < i → last ≡ within i last
-unfolding within
-within_high i last h = rw (lt-leb i last h)
+  pub first_found : {r : Option ℕ} → r ≡ position_from p 0 xs → r ≡ found n (first n passes)
+  unfolding found
+  first_found h = h ∙ rw (← position_from-zero p xs, e, first_elements) refl
 
--- the site of a digit
-pub site_zero : (digit : ℕ) → digit ≡ 0 → 0 ≡ site_index digit
-unfolding site_index within
-site_zero digit e = rw e
+twice : (b : Bool) → b ≡ not (not b)
+twice true = refl
+twice false = refl
 
-pub site_digit : (digit : ℕ) {i x : ℕ} → i ≡ digit - 1 → x ≡ within i 6 → x ≡ site_index digit
-unfolding site_index
-site_digit digit f h = rw f at h
-
--- ---- the first place of a kind
-
-pub free_is : (names : List ℕ) {p : ℕ} → p ≡ first 16 (λ k. not (not (eqb (get_or names k 0) 0))) → p ≡ free_in names
+pub free_found : {r : Option ℕ} (rs : List Request) → length rs ≡ 16 → r ≡ position_from (λ q. q.stamp == 0) 0 rs → r ≡ found 16 (free_in rs)
 unfolding free_in
-free_is names e = e
+free_found rs e h =
+    first_found (λ (q : Request). eqb q.stamp 0) rs 16 no_request e h
+    ∙ rw (first_same (λ p. eqb (request_at rs p).stamp 0) (λ p. not (not (eqb (request_at rs p).stamp 0))) 16 (λ i l. twice (eqb (request_at rs i).stamp 0))) refl
 
-module _ (names : List ℕ) (stamp : ℕ) where
-  pub place_zero : stamp ≡ 0 → 16 ≡ place_in names stamp
-  unfolding place_in
-  place_zero e = rw (eq-eqb stamp 0 e)
+pub stamp_found : {r : Option ℕ} (rs : List Request) (stamp : ℕ) → length rs ≡ 16 → (stamp ≡ 0 → ⊥) → r ≡ position_from (λ q. q.stamp == stamp) 0 rs → r ≡ found 16 (place_in rs stamp)
+unfolding place_in
+stamp_found rs stamp e ne h = rw (ne_eqb stamp 0 ne) (first_found (λ (q : Request). eqb q.stamp stamp) rs 16 no_request e h)
 
-  pub place_is : {p : ℕ} → (stamp ≡ 0 → ⊥) → p ≡ first 16 (λ k. eqb (get_or names k 0) stamp) → p ≡ place_in names stamp
-  unfolding place_in
-  place_is h e = rw (ne_eqb stamp 0 h) e
+pub none_found : (rs : List Request) (stamp : ℕ) → stamp ≡ 0 → None ≡ found 16 (place_in rs stamp)
+unfolding place_in found
+none_found rs stamp e = rw (eq-eqb stamp 0 e) refl
 
--- ---- the lowest of a set
+-- ---- what the code's places say of document 01's
 
--- all k digits of 0 are zeros
-zeros_none : (k : ℕ) → count_trailing_zeros k 0 ≡ k
-unfolding count_trailing_zeros
-zeros_none zero = refl
-zeros_none (suc k) = ap suc (zeros_none k)
+pub found_there : (n k : ℕ) {p : ℕ} → found n k ≡ Some p → (k ≡ p) × (p < n)
+unfolding found
+found_there n k {p} e = by_lt k n (λ h. let q : Some k ≡ Some p = rw (lt-ltb k n h) at e in let r : k ≡ p = cc in (r, omega arith)) (λ h. absurd (let q : None ≡ Some p = rw (le-ltb k n h) at e in let z : ◌≡◌ {A = ℕ} 0 1 = cc in omega arith))
 
--- the zeros below the lowest digit of a set of width k are as many as the first that is in it
-zeros_first : (k s : ℕ) → s < 2 ^ k → count_trailing_zeros k s ≡ first k (member s)
-zeros_first k s h =
-    by_eq s 0 (λ e. rw e (zeros_none k ∙ sym (first_none k (member 0) (none_of k (member 0) (λ i l. member_none i)))))
-    (λ ne. let m = lowest k s ne h in
-    let l : count_trailing_zeros k s < k = by_lt (count_trailing_zeros k s) k (λ l. l) (λ l. clash m (above k s (count_trailing_zeros k s) h l)) in
-    sym (first_is k (count_trailing_zeros k s) (member s) (none_of (count_trailing_zeros k s) (member s) (lower k s)) l m))
+pub missing : (n k : ℕ) → found n k ≡ None → n ≤ k
+unfolding found
+missing n k e = by_lt k n (λ h. absurd (let q : Some k ≡ None = rw (lt-ltb k n h) at e in let z : ◌≡◌ {A = ℕ} 0 1 = cc in omega arith)) (λ h. h)
 
-pub message_lowest : (s : ℕ) → s < 2 ^ 64 → count_trailing_zeros 64 s ≡ free_message_in s
-unfolding free_message_in
-message_lowest s h = zeros_first 64 s h
+place_le : (rs : List Request) (stamp : ℕ) → place_in rs stamp ≤ 16
+unfolding place_in
+place_le rs stamp = by_test (eqb stamp 0) (λ e. rw e (omega arith)) (λ e. rw e (first_le 16 (λ p. eqb (request_at rs p).stamp stamp)))
 
-pub message_few : (s : ℕ) → s < 2 ^ 64 → count_trailing_zeros 64 s < 256
-message_few s h = let l : first 64 (member s) ≤ 64 = first_le 64 (member s) in let e = zeros_first 64 s h in omega arith
+pub none_with : (rs : List Request) (stamp : ℕ) → found 16 (place_in rs stamp) ≡ None → place_in rs stamp ≡ 16
+none_with rs stamp e = let h = missing 16 (place_in rs stamp) e in let l = place_le rs stamp in omega arith
+
+pub none_free : (rs : List Request) → found 16 (free_in rs) ≡ None → free_in rs ≡ 16
+unfolding free_in
+none_free rs e = let h = missing 16 (free_in rs) e in let l = first_le 16 (λ p. not (not (eqb (request_at rs p).stamp 0))) in omega arith

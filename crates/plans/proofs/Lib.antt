@@ -1,10 +1,8 @@
--- A law for each way through a step on its pieces, and for a table taken apart.
-mod Digits
+-- Laws of what a step looks for, asks and puts.
 pub mod Found
-mod AtSites
-mod Sending
-pub mod Posting
-mod Retiring
-mod Beginning
-mod Elements
-pub mod Opening
+mod Named
+pub mod Given
+-- What a step gives back, told.
+pub mod Told
+-- The free message places as a set.
+pub mod FreeSet

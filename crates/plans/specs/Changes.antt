@@ -1,5 +1,5 @@
 -- What a step puts in the place of a piece: the request that begin stores, the message that tell sends, the site after retire.
-use Rattle.std.specs.Prelude.{ℕ, Bool, true, cond, List, ltb, pos, get_or, set}
+use Rattle.std.specs.Prelude.{ℕ, Bool, true, cond, List, pos, get_or, set}
 use Rattle.kit.specs.Lists.{listed}
 use Rattle.record.specs.declared.Step.{Step}
 use Rattle.sets.specs.Sets.{member}
@@ -11,13 +11,17 @@ use Rattle.vote.specs.declared.data.Site.{Site}
 use Rattle.vote.specs.declared.data.Verdict.{Verdict}
 
 -- "Numbers given for other items are not looked at and are stored as 0."
+abbrev pub kept_row : {A : Type 0} → A → ℕ → List A → List A
+kept_row zero items l = listed 24 (λ i. cond (member items i) (get_or l i zero) zero)
+
+-- the request that begin stores
 unfoldable pub stored : Step → ℕ → Request
 stored a stamp = record {
   stamp = stamp;
   base = a.base;
   update = a.update;
-  stamps = listed 24 (λ i. cond (member a.base i) (get_or a.stamps i 0) 0);
-  values = listed 24 (λ i. cond (member a.update i) (get_or a.values i (pos 0)) (pos 0));
+  stamps = kept_row 0 a.base a.stamps;
+  values = kept_row (pos 0) a.update a.values;
 }
 
 -- "the teller's known voters while open, else its verdict"
@@ -38,10 +42,3 @@ message_from s p from to = message_of (vote_at s.votes p).verdict s.oks s.others
 -- a site that holds nothing of place p any more
 unfoldable pub forgotten : ℕ → ℕ → Site → Site
 forgotten p k s = with_votes (set s.votes p no_vote) (with_known (clear_voters s.oks p) (clear_voters s.others p) s)
-
--- the numbers of what a site has said with nothing said of place p any more, and the voters that it knows of one kind with none of place p
-unfoldable pub votes_forgotten : ℕ → ℕ → List ℕ → List ℕ
-votes_forgotten p k row = cond (ltb p 16) (set row p 0) row
-
-unfoldable pub voters_forgotten : ℕ → ℕ → List Bool → List Bool
-voters_forgotten p k known = clear_voters known p

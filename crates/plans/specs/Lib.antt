@@ -1,6 +1,5 @@
--- What the contracts of `plans` cite: answers, what a step puts in the place of a piece, each step on its pieces, and the table taken apart.
+-- What the contracts of `plans` cite: answers, what a step looks for and asks, and what it puts in the place of a piece.
 pub mod Answers
-pub mod Changes
-pub mod Letters
 pub mod Pieces
-pub mod Opened
+pub mod Changes
+pub mod Free

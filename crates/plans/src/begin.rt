@@ -1,84 +1,63 @@
-// Step 1, begin.
+// What a begin asks before it stores its request, and the request that it stores.
 ghost use Rattle.std.specs.Prelude.{◌≡◌};
 ghost use Rattle.record.specs.Records.{step_from};
-ghost use Rattle.plans.specs.Pieces.{unbegun, begin_plan};
+ghost use Rattle.plans.specs.Changes.{kept_row, stored};
+ghost use Rattle.plans.specs.Pieces.{given_for};
 
-use crate::answer::{Answer, give, refuse};
-use crate::sites::is_site;
-use clock::{Clock, issue_from};
+use clock::{Clock, issue};
 use record::Brief;
-use stamps::Issue;
+use refusals::Refusal;
+use stamps::Given;
 use table::requests::{are_base_stamps_allowed, are_sets_allowed, are_values_allowed};
-use vote::data::Head;
+use vote::data::Request;
 
-// The answer, the head of the request that is stored, empty where none is, and the site's last t.
-#[derive(Clone, Copy)]
-pub struct Begun {
-    pub answer: Answer,
-    pub head: Head,
-    pub last: u32,
-}
-
-// Nothing is begun.
-fn leave_out(number: u8, last: u32) -> Begun
-    ensures { result ≡ unbegun number last }
-{
-    Begun {
-        answer: refuse(number),
-        head: Head {
-            stamp: 0,
-            base: 0,
-            update: 0,
-        },
-        last,
-    }
-}
-
-// Step 1 at a site that is up or not and has issued this last t: the record a with its stamps and values. The lowest free request place is p.
-pub fn begin<'a>(
+// The stamp of a begin at a site of n whose last t this is, by checks 5 to 8: the record a with its stamps and values.
+#[tactic(auto, unfolding(crate::specs::Pieces::given_for))]
+// Stays: a record's stamps and values beside it: they are read apart from it, since no step but a begin looks at them (docs/SPEED.md).
+pub fn stamp_for(
     n: u8,
-    up: bool,
     last: u32,
-    p: u8,
     a: Brief,
-    stamps: &'a [u64; 24],
-    values: &'a [i32; 24],
-) -> Begun
-    ensures { result ≡ begin_plan n up last p (step_from a stamps.now values.now) }
+    stamps: &[u64; 24],
+    values: &[i32; 24],
+) -> Result<Given, Refusal>
+    ensures { result ≡ given_for n last (step_from a stamps.now values.now) }
 {
-    if !is_site(n, a.site) {
-        return leave_out(3, last);
-    }
-    if !up {
-        return leave_out(4, last);
-    }
     if !are_sets_allowed(a.base, a.update) {
-        return leave_out(5, last);
+        return Err(Refusal::WrongSets);
     }
     if !are_base_stamps_allowed(n, a.base, stamps) {
-        return leave_out(6, last);
+        return Err(Refusal::WrongBaseStamp);
     }
     if !are_values_allowed(a.update, values) {
-        return leave_out(7, last);
+        return Err(Refusal::WrongValue);
     }
-    let record = Clock { site: a.site, last };
-    let out = issue_from(record, a.clock, a.base, stamps);
-    let issue = out.answer;
-    match issue {
-        Issue::Past => leave_out(8, last),
-        Issue::Given(stamp, next) => {
-            if p == 16 {
-                return leave_out(9, last);
-            }
-            Begun {
-                answer: give(stamp as i64, kit::wide(p)),
-                head: Head {
-                    stamp,
-                    base: a.base,
-                    update: a.update,
-                },
-                last: next,
-            }
-        }
+    let mut clock = Clock { site: a.site, last };
+    issue(&mut clock, a.clock, a.base, stamps)
+}
+
+// The numbers of the items of a set, by item; 0 for the others.
+fn kept<T: Copy>(zero: T, set: u32, numbers: &[T; 24]) -> [T; 24]
+    ensures { result ≡ kept_row zero «set» numbers.now }
+{
+    let mut row = [zero; 24];
+    // Stays: the item's number is what the set is asked for; `enumerate` over two rows is no plainer.
+    for i in 0..24 {
+        row[i] = if sets::has(set, i) { numbers[i] } else { zero };
+    }
+    row
+}
+
+// The request that is stored under this stamp.
+#[tactic(auto, unfolding(crate::specs::Changes::stored))]
+pub fn stored(a: Brief, stamps: &[u64; 24], values: &[i32; 24], stamp: u64) -> Request
+    ensures { result ≡ stored (step_from a stamps.now values.now) stamp }
+{
+    Request {
+        stamp,
+        base: a.base,
+        update: a.update,
+        stamps: kept(0, a.base, stamps),
+        values: kept(0, a.update, values),
     }
 }

@@ -1,111 +1,82 @@
-// Step 7, retire.
-ghost use Rattle.std.specs.Prelude.{◌≡◌, ◌&&◌, [], eqb, ltb, get_or};
+// What holds a request back from being retired, and what its sites forget.
+ghost use Rattle.std.specs.Prelude.{◌≡◌, ◌&&◌, ◌==◌, ltb, get_or, set};
+ghost use Rattle.std.specs.List.{list_any};
 ghost use Rattle.kit.specs.Lists.{changed};
 ghost use Rattle.kit.specs.Range.{any};
-ghost use Rattle.vote.specs.Data.{is_open, vote_at};
-ghost use Rattle.vote.specs.Numbers.{votes_from};
-ghost use Rattle.plans.specs.Letters.{is_letter};
-ghost use Rattle.plans.specs.Pieces.{held_back_by, retire_number_of};
-ghost use Rattle.plans.specs.Changes.{votes_forgotten, voters_forgotten};
+ghost use Rattle.table.specs.Places.{no_site};
+ghost use Rattle.vote.specs.Data.{is_open, no_vote, vote_at};
+ghost use Rattle.plans.specs.Pieces.{held_back};
+ghost use Rattle.plans.specs.Changes.{forgotten};
 
+use table::data::Message;
 use vote::consider::is_open;
-use vote::numbers::said_at;
+use vote::data::{Mark, Site, Verdict, Vote};
 use vote::voters::clear_voters;
+use vote::voting::vote_at;
 
-// Whether site k of n, which has said this, holds the request at place p open.
-fn is_open_at(n: u8, k: usize, row: &[u8; 16], p: u8) -> bool
-    ensures { result ≡ (ltb k n && is_open (vote_at (votes_from row.now) p).verdict) }
+// Whether site k of n holds the request at place p open.
+fn is_open_at(n: u8, k: usize, s: &Site, p: u8) -> bool
+    ensures { result ≡ (ltb k n && is_open (vote_at s.now.votes p).verdict) }
 {
-    if kit::index(n) <= k {
-        return false;
-    }
-    let v = said_at(row, p);
-    let d = v.verdict;
-    is_open(d)
+    k < usize::from(n) && is_open(vote_at(&s.votes, p).verdict)
 }
 
 // Whether some site of the table has no verdict on the request at place p.
-fn is_open_somewhere(n: u8, votes: &[[u8; 16]; 7], p: u8) -> bool
-    ensures { result ≡ any 7 (λ k. ltb k n && is_open (vote_at (votes_from (get_or votes.now k [])) p).verdict) }
+fn is_open_somewhere(n: u8, sites: &[Site; 7], p: u8) -> bool
+    ensures { result ≡ any 7 (λ k. ltb k n && is_open (vote_at (get_or sites.now k no_site).votes p).verdict) }
 {
+    // Stays: the site's number is asked too, and the clause is over numbers; `enumerate` is no plainer.
     for k in 0..7 {
-        if is_open_at(n, k, &votes[k], p) {
+        if is_open_at(n, k, &sites[k], p) {
             return true;
         }
     }
     false
-}
-
-// Whether the message of this row names the request at place p.
-fn is_naming(row: &[u8; 5], p: u8) -> bool
-    ensures { result ≡ (is_letter row.now && eqb (get_or row.now 1 0) p) }
-{
-    if row[1] != p {
-        return false;
-    }
-    row[0] != 0
 }
 
 // Whether some message names the request at place p.
-fn is_named(letters: &[[u8; 5]; 64], p: u8) -> bool
-    ensures { result ≡ any 64 (λ j. is_letter (get_or letters.now j []) && eqb (get_or (get_or letters.now j []) 1 0) p) }
+fn is_named(messages: &[Message; 64], p: u8) -> bool
+    ensures { result ≡ list_any (λ m. m.used && m.request == p) messages.now }
 {
-    for j in 0..64 {
-        if is_naming(&letters[j], p) {
-            return true;
-        }
-    }
-    false
+    messages.iter().any(|m| m.used && m.request == p)
 }
 
 // Whether the request at place p is held back: some site of the table has no verdict on it, or a message names it.
-pub fn is_held_back<'a>(n: u8, votes: &'a [[u8; 16]; 7], letters: &'a [[u8; 5]; 64], p: u8) -> bool
-    ensures { result ≡ held_back_by n votes.now letters.now p }
+#[tactic(auto, using(crate::proofs::Named::held_back_is))]
+pub fn is_held_back(n: u8, sites: &[Site; 7], messages: &[Message; 64], p: u8) -> bool
+    ensures { result ≡ held_back n sites.now messages.now p }
 {
-    if is_open_somewhere(n, votes, p) {
-        return true;
-    }
-    is_named(letters, p)
+    is_open_somewhere(n, sites, p) || is_named(messages, p)
 }
 
-// Step 7, its number: the request at place p, which is 16 where no request has the stamp, and which is held back or not.
-pub fn retire_number(p: u8, held: bool) -> u8
-    ensures { result ≡ retire_number_of p held }
+// Nothing is said of place p any more; a place above 15 is none.
+fn clear_vote(votes: &mut [Vote; 16], p: u8)
+    ensures { votes.new ≡ set votes.old p no_vote }
 {
-    if p == 16 {
-        return 10;
-    }
-    if held {
-        return 14;
-    }
-    0
-}
-
-// Nothing said of place p any more: 0 is the number of that.
-fn clear_vote(row: &mut [u8; 16], p: u8)
-    ensures { row.new ≡ votes_forgotten p 0 row.old }
-{
-    let at = kit::index(p);
-    if 15 < at {
-        return;
-    }
-    row[at] = 0;
-}
-
-// Each site has said nothing of place p any more.
-pub fn forget_votes(votes: &mut [[u8; 16]; 7], p: u8)
-    ensures { votes.new ≡ changed 7 (votes_forgotten p) votes.old }
-{
-    for k in 0..7 {
-        clear_vote(&mut votes[k], p);
+    let at = usize::from(p);
+    if at < 16 {
+        votes[at] = Vote {
+            mark: Mark::None,
+            verdict: Verdict::Open,
+        };
     }
 }
 
-// Each site forgets the voters of one kind that it knows of place p.
-pub fn forget_voters(known: &mut [[bool; 112]; 7], p: u8)
-    ensures { known.new ≡ changed 7 (voters_forgotten p) known.old }
+// A site holds nothing of place p any more.
+#[tactic(auto, unfolding(crate::specs::Changes::forgotten))]
+pub fn forget(s: &mut Site, p: u8)
+    ensures { s.new ≡ forgotten p 0 s.old }
 {
-    for k in 0..7 {
-        clear_voters(&mut known[k], p);
+    clear_vote(&mut s.votes, p);
+    clear_voters(&mut s.oks, p);
+    clear_voters(&mut s.others, p);
+}
+
+// No site holds anything of place p any more.
+pub fn forget_everywhere(sites: &mut [Site; 7], p: u8)
+    ensures { sites.new ≡ changed 7 (forgotten p) sites.old }
+{
+    for s in sites {
+        forget(s, p);
     }
 }

@@ -1,65 +1,20 @@
-// Steps 5, 6 and 8: down, up and read.
-ghost use Rattle.std.specs.Prelude.{◌≡◌, ◌&&◌, leb};
-ghost use Rattle.plans.specs.Pieces.{down_number_of, up_number_of, read_plan};
+// Which site a step speaks of.
+ghost use Rattle.std.specs.Prelude.{◌≡◌, ◌<◌, ◌&&◌, true, leb, get_or};
+ghost use Rattle.table.specs.Places.{no_site};
 
-use crate::answer::{Answer, give, refuse};
+use vote::data::Site;
 
 // Whether a digit is 1 to the site count.
-pub(crate) fn is_site(n: u8, digit: u8) -> bool
+pub fn is_site(n: u8, digit: u8) -> bool
     ensures { result ≡ (leb 1 digit && leb digit n) }
 {
-    if digit < 1 {
-        return false;
-    }
-    digit <= n
+    (1..=n).contains(&digit)
 }
 
-// Step 5 at the site with this digit, its number.
-pub fn down_number(n: u8, digit: u8, up: bool) -> u8
-    ensures { result ≡ down_number_of n digit up }
+// Whether the site of this index, where there is one, is up.
+pub fn is_up(sites: &[Site; 7], k: u8) -> bool
+    ensures value { result ≡ (get_or sites.now k no_site).up }
+    ensures inside { result ≡ true → k < 7 }
 {
-    if !is_site(n, digit) {
-        return 3;
-    }
-    if !up {
-        return 4;
-    }
-    0
-}
-
-// Step 6 at the site with this digit, its number.
-pub fn up_number(n: u8, digit: u8, up: bool) -> u8
-    ensures { result ≡ up_number_of n digit up }
-{
-    if !is_site(n, digit) {
-        return 3;
-    }
-    if up {
-        return 15;
-    }
-    0
-}
-
-// Step 8: the reading of an item at the site with this digit, which is up or not and has this copy.
-pub fn read<'a>(
-    n: u8,
-    digit: u8,
-    up: bool,
-    stamps: &'a [u64; 24],
-    values: &'a [i32; 24],
-    item: u8,
-) -> Answer
-    ensures { result ≡ read_plan n digit up stamps.now values.now item }
-{
-    if !is_site(n, digit) {
-        return refuse(3);
-    }
-    if !up {
-        return refuse(4);
-    }
-    let i = kit::index(item);
-    if 23 < i {
-        return refuse(16);
-    }
-    give(values[i] as i64, stamps[i])
+    k < 7 && sites[usize::from(k)].up
 }

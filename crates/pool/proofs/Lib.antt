@@ -1,3 +1,2 @@
 -- What the proofs of `pool` share.
 pub mod Laws
-pub mod Whole

@@ -19,21 +19,17 @@ pub fn position_of(item: u8) -> u8
 }
 
 // Whether a value may be a daily rate.
+#[tactic(auto, unfolding(crate::specs::Readings::in_range))]
 pub fn is_in_range(value: i32) -> bool
     ensures { result ≡ in_range value }
 {
-    if value < -8640000 {
-        return false;
-    }
-    value <= 8640000
+    (-8_640_000..=8_640_000).contains(&value)
 }
 
 // Whether the rate is 0.
+#[tactic(auto, unfolding(crate::specs::Readings::is_zero))]
 pub fn is_zero(value: i32) -> bool
     ensures { result ≡ is_zero value }
 {
-    if value < 0 {
-        return false;
-    }
-    value <= 0
+    value == 0
 }

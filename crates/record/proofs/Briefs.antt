@@ -1,165 +1,121 @@
--- A record without a begin's stamps and values: that all three are the record, whether it is a begin, and where these stand.
-use mathlib.Core.Path.{◌≡◌, refl, sym, ap, ◌∙◌, subst}
-use mathlib.Core.Bool.{false, ◌&&◌, cond}
-use mathlib.Core.List.{List}
-use Prim.Native.Nat.{ℕ, ◌+◌, ◌-◌, ◌≤◌}
-use native.Mathlib.Omega.{arith}
-use borrow.Author.Tests.{eq-eqb, ne_eqb}
-use lib.Dec.{eqb, leb}
-use lib.IntN.{ℤ, pos}
-use lib.ListN.{length, take, drop, replicate}
-use Rattle.kit.proofs.Bools.{clash, by_eq, of_cond, cond_yes}
-use Rattle.record.specs.Bodies.{begin_length, begin_step, tell_step, place_step, site_step, retire_step, read_step}
-use Rattle.record.specs.Records.{code_of, length_of, body_of, Asked, asked, refused, body_read, is_cut, record_of, brief_of, step_from}
-use Rattle.record.specs.Records.Asked.{unknown, known}
+-- A record without a begin's stamps and values: that all three are the record; and that no two answers stand for one record.
+use Rattle.std.proofs.Common.{◌≡◌, refl, sym, ap, ap₂, ℕ, ◌+◌, List, [], ℤ, arith}
+use Rattle.std.specs.Prelude.{Option, None, Some, Result, Ok, Err}
+use Rattle.std.specs.Result.{MatchResult, IsOkAnd}
+use Rattle.refusals.specs.Numbers.{number_of}
+use Rattle.refusals.specs.declared.Refusal.{Refusal}
+use Rattle.refusals.proofs.Numbers.{same_refusal, same_answer}
+use Rattle.record.specs.Bodies.{blank_step}
+use Rattle.record.specs.Records.{Record, BriefRecord, refused, record_of, brief_of, whole_read, record_read, whole_brief, brief_read, step_from}
 use Rattle.record.specs.declared.Brief.{Brief}
-use Rattle.record.specs.declared.Record.{Record}
 use Rattle.record.specs.declared.Step.{Step}
-use Rattle.record.proofs.Codes.{asked_begin}
-use Rattle.record.proofs.Frames.{record_cut, record_whole, body_part}
-use Rattle.record.proofs.Laws.{by_record, asked_code, has_body, length_body, next_whole, whole_next, cut_next}
+use Rattle.record.specs.declared.Whole.{Whole}
+use Rattle.record.proofs.Frames.{cut_header, record_cut}
+use Rattle.record.proofs.Laws.{cut_next, refused_blank, taken_code}
+
+-- the record with these stamps and values
+abbrev pub record_from : BriefRecord → List ℕ → List ℤ → Record
+record_from r stamps values = record {
+  number = r.number;
+  next = r.next;
+  step = record {
+    code = r.code;
+    site = r.site;
+    to = r.to;
+    item = r.item;
+    place = r.place;
+    clock = r.clock;
+    stamp = r.stamp;
+    base = r.base;
+    update = r.update;
+    stamps = stamps;
+    values = values;
+  };
+}
 
 -- the record from its parts
-pub whole_is
-    : (x : Record) {r : Brief} {stamps : List ℕ} {values : List ℤ} → r ≡ brief_of x → stamps ≡ x.step.stamps → values ≡ x.step.values
-    → ◌≡◌ {A = Record} (record { number = r.number; next = r.next; step = step_from r stamps values }) x
+pub whole_is : (x : Record) {r : BriefRecord} {stamps : List ℕ} {values : List ℤ} → r ≡ brief_of x → stamps ≡ x.step.stamps → values ≡ x.step.values → record_from r stamps values ≡ x
 unfolding brief_of
 whole_is x e f g = rw (e, f, g)
 
--- ---- a step that was read is a begin, or has neither stamps nor values
-
-abbrev pub Empty : Step → Type 0
-Empty t = (t.stamps ≡ replicate 24 0) × (t.values ≡ replicate 24 (pos 0))
-
--- what a code that is not 1 asks for
-asked_empty : (c : ℕ) (b : List ℕ) (m : ℕ) (t : Step) → asked c b ≡ known m t → (t.code ≡ 1 → ⊥) → Empty t
-unfolding asked begin_step tell_step place_step site_step retire_step read_step
-asked_empty c b m t e = subst Each e each
-  where
-    Each : Asked → Type 0
-    Each unknown = Unit {0}
-    Each (known m t) = (t.code ≡ 1 → ⊥) → Empty t
-
-    each : Each (asked c b)
-    each =
-        of_cond Each (eqb c 1) (λ _ h. absurd (h refl))
-        (λ _. of_cond Each (eqb c 2) (λ _ _. (refl, refl))
-        (λ _. of_cond Each (leb 3 c && leb c 4) (λ _ _. (refl, refl))
-        (λ _. of_cond Each (leb 5 c && leb c 6) (λ _ _. (refl, refl))
-        (λ _. of_cond Each (eqb c 7) (λ _ _. (refl, refl))
-        (λ _. of_cond Each (eqb c 8) (λ _ _. (refl, refl)) (λ _. tt))))))
-
--- and one that is 1
-asked_begun : (c : ℕ) (b : List ℕ) (m : ℕ) (t : Step) → asked c b ≡ known m t → t.code ≡ 1 → (c ≡ 1) × (m ≡ begin_length b) × (begin_step b ≡ t)
-asked_begun c b m t e h =
-    let q : c ≡ 1 = sym (asked_code c b m t e).0 ∙ h in
-    let z : known (begin_length b) (begin_step b) ≡ known m t = sym (asked_begin c b q) ∙ e in
-    (q, sym (long z), same z)
-  where
-    long : {m n : ℕ} {t u : Step} → known m t ≡ known n u → m ≡ n
-    long e = cc
-
-    same : {m n : ℕ} {t u : Step} → known m t ≡ known n u → t ≡ u
-    same e = cc
-
 module _ (s : List ℕ) where
-  -- where it ends, if it is a begin
-  abbrev pub begin_end : ℕ
-  begin_end = cond (eqb (record_of s).step.code 1) (record_of s).next 0
+  -- where it is cut, or refused, it is known without them
+  pub none_is : brief_of (refused 17 0) ≡ brief_of (record_of s) → refused 17 0 ≡ record_of s
+  unfolding brief_of
+  none_is e = sym (record_cut s (cut_next s (ap (λ (r : BriefRecord). r.next) (sym e))))
 
-  -- a begin that was read
-  record IsBegin : Type 0 where
-    whole : is_cut s ≡ false
-    code : code_of s ≡ 1
-    long : length_of s ≡ begin_length (body_of s)
-    step : begin_step (body_of s) ≡ (record_of s).step
+  pub refused_is : (number next : ℕ) → brief_of (refused number next) ≡ brief_of (record_of s) → refused number next ≡ record_of s
+  unfolding brief_of
+  refused_is number next e =
+      let blank : (record_of s).step ≡ blank_step =
+      refused_blank s (λ z. let c : (record_of s).step.code ≡ 0 = ap (λ (r : BriefRecord). r.code) (sym e) in let h = taken_code s z in let k : ⊥ = omega (arith, h) in k)
+      in
+      whole_is (record_of s) e (rw blank) (rw blank)
 
-  is_begin : (record_of s).step.code ≡ 1 → IsBegin
-  is_begin h = let k = found h in record { whole = k.0; code = k.1.0; long = sym (length_body s k.0) ∙ k.1.1.0; step = k.1.1.1 }
-    where
-      Found : Record → Type 0
-      Found x = x.step.code ≡ 1 → (is_cut s ≡ false) × ((code_of s ≡ 1) × ((length (body_of s) ≡ begin_length (body_of s)) × (begin_step (body_of s) ≡ x.step)))
+  -- an answer without them, and the same with them
+  pub answer_is
+      : (n : ℕ) (a : Result Brief Refusal) (b : Result Step Refusal) {stamps : List ℕ} {values : List ℤ} → whole_brief n a ≡ brief_of (record_of s)
+      → stamps ≡ (record_of s).step.stamps → values ≡ (record_of s).step.values
+      → (P : Brief → Step → Type 0) → ((x : Brief) (t : Step) → P x t → t ≡ step_from x stamps values)
+      → MatchResult a (λ x. IsOkAnd b (P x)) (λ r. b ≡ Err r) → whole_read n b ≡ record_of s
+  answer_is n (Ok x) (Ok t) e f g P p h = rw (p x t h) (whole_is (record_of s) e f g)
+  answer_is n (Ok x) (Err r) e f g P p h = absurd h
+  answer_is n (Err r) b e f g P p h = rw h (refused_is (number_of r) (3 + n) e)
 
-      found : Found (record_of s)
-      found =
-          by_record s Found (λ _ h. absurd (let z : ⊥ = omega arith in z)) (λ _ _ h. absurd (let z : ⊥ = omega arith in z))
-          (λ _ h. absurd (let z : ⊥ = omega arith in z))
-          (λ m t f a l h. let k = asked_begun (code_of s) (body_of s) m t a h in (f, (k.0, (l ∙ k.1, k.2))))
+-- where no bytes are left there is no record
+pub nothing_left : brief_read None ≡ brief_of (record_of [])
+nothing_left = ap brief_of (sym (record_cut [] (cut_header [] (omega arith))))
 
-  begin_is : is_cut s ≡ false → code_of s ≡ 1 → length_of s ≡ begin_length (body_of s) → (record_of s).step.code ≡ 1
-  unfolding body_read begin_step
-  begin_is f c l =
-      let e = record_whole s f in
-      rw (e, asked_begin (code_of s) (body_of s) c, eq-eqb (length (body_of s)) (begin_length (body_of s)) (length_body s f ∙ l)) refl
+-- ---- no two answers stand for one record
 
-  -- ---- by the tests that lead to an answer
+pub above_zero : (r : Refusal) → 0 ≡ number_of r → ⊥
+above_zero r e = let k : Ok tt ≡ Err r = same_answer (Ok tt) (Err r) e in cc
 
-  end_none : ((record_of s).step.code ≡ 1 → ⊥) → 0 ≡ begin_end
-  end_none h = rw (ne_eqb (record_of s).step.code 1 h) refl
+same_whole : (n m : ℕ) (a b : Result Step Refusal) → whole_read n a ≡ whole_read m b → (n ≡ m) × (a ≡ b)
+same_whole n m (Ok t) (Ok u) e = let k : 3 + n ≡ 3 + m = ap (λ (x : Record). x.next) e in (omega arith, ap (λ (x : Record). Ok x.step) e)
+same_whole n m (Ok t) (Err r) e = absurd (above_zero r (ap (λ (x : Record). x.number) e))
+same_whole n m (Err r) (Ok t) e = absurd (above_zero r (ap (λ (x : Record). x.number) (sym e)))
+same_whole n m (Err r) (Err q) e = let k : 3 + n ≡ 3 + m = ap (λ (x : Record). x.next) e in (omega arith, ap Err (same_refusal r q (ap (λ (x : Record). x.number) e)))
 
-  module _ {end : ℕ} (e : end ≡ (record_of s).next) where
-    pub end_cut : end ≡ 0 → 0 ≡ begin_end
-    end_cut z = end_none (λ h. clash (cut_next s (sym e ∙ z)) (is_begin h).whole)
+behind : (n : ℕ) (a : Result Step Refusal) → (whole_read n a).next ≡ 3 + n
+behind n (Ok t) = refl
+behind n (Err r) = refl
 
-    pub brief_cut : end ≡ 0 → {r : Brief} → r ≡ brief_of (refused 17 0) → r ≡ brief_of (record_of s)
-    brief_cut z h = h ∙ ap brief_of (sym (record_cut s (cut_next s (sym e ∙ z))))
+pub same_record : (a b : Option (Whole Step)) → record_read a ≡ record_read b → a ≡ b
+same_record None None e = refl
+same_record None (Some w) e = let k : 0 ≡ (whole_read w.length w.step).next = ap (λ (x : Record). x.next) e in absurd (omega (arith, behind w.length w.step))
+same_record (Some w) None e = let k : (whole_read w.length w.step).next ≡ 0 = ap (λ (x : Record). x.next) e in absurd (omega (arith, behind w.length w.step))
+same_record (Some w) (Some v) e = let h = same_whole w.length v.length w.step v.step e in ap₂ (λ (n : ℕ) (a : Result Step Refusal). Some (record { length = n; step = a })) h.0 h.1
 
-    pub end_other : (code_of s ≡ 1 → ⊥) → 0 ≡ begin_end
-    end_other n = end_none (λ h. n (is_begin h).code)
+-- nor for one without a begin's stamps and values
+brief_in : BriefRecord → Brief
+brief_in r = record {
+  code = r.code;
+  clock = r.clock;
+  site = r.site;
+  base = r.base;
+  to = r.to;
+  update = r.update;
+  item = r.item;
+  stamp = r.stamp;
+  place = r.place;
+}
 
-    module _ (n : end ≡ 0 → ⊥) where
-      not_cut_here : is_cut s ≡ false
-      not_cut_here = whole_next s (λ z. n (e ∙ z))
+same_whole_brief : (n m : ℕ) (a b : Result Brief Refusal) → whole_brief n a ≡ whole_brief m b → (n ≡ m) × (a ≡ b)
+unfolding brief_of brief_in
+same_whole_brief n m (Ok t) (Ok u) e = let k : 3 + n ≡ 3 + m = ap (λ (x : BriefRecord). x.next) e in (omega arith, ap (λ (x : BriefRecord). Ok (brief_in x)) e)
+same_whole_brief n m (Ok t) (Err r) e = absurd (above_zero r (ap (λ (x : BriefRecord). x.number) e))
+same_whole_brief n m (Err r) (Ok t) e = absurd (above_zero r (ap (λ (x : BriefRecord). x.number) (sym e)))
+same_whole_brief n m (Err r) (Err q) e = let k : 3 + n ≡ 3 + m = ap (λ (x : BriefRecord). x.next) e in (omega arith, ap Err (same_refusal r q (ap (λ (x : BriefRecord). x.number) e)))
 
-      ends : end ≡ 3 + length_of s
-      ends = e ∙ next_whole s not_cut_here
+pub behind_brief : (n : ℕ) (a : Result Brief Refusal) → (whole_brief n a).next ≡ 3 + n
+unfolding brief_of
+behind_brief n (Ok t) = refl
+behind_brief n (Err r) = refl
 
-      pub end_header : 3 ≤ end
-      end_header = omega (arith, ends)
-
-      pub end_inside : end ≤ length s
-      end_inside = rw ends (has_body s not_cut_here)
-
-      pub end_body : take (end - 3) (drop 3 s) ≡ body_of s
-      end_body = rw ends (body_part s (length_of s) refl)
-
-      pub brief_whole : {r : Brief} → r ≡ brief_of (body_read (code_of s) (take (end - 3) (drop 3 s)) end) → r ≡ brief_of (record_of s)
-      brief_whole h = h ∙ ap brief_of (rw (end_body, ends) (sym (record_whole s not_cut_here)))
-
-      module _ {m : ℕ} (l : m ≡ begin_length (take (end - 3) (drop 3 s))) where
-        right : m ≡ begin_length (body_of s)
-        right = l ∙ ap begin_length end_body
-
-        pub end_wrong : (end - 3 ≡ m → ⊥) → 0 ≡ begin_end
-        end_wrong w = end_none (λ h. w (omega (arith, ends, right, (is_begin h).long)))
-
-        pub end_right : code_of s ≡ 1 → end - 3 ≡ m → end ≡ begin_end
-        end_right c w =
-            let k : (record_of s).step.code ≡ 1 = begin_is not_cut_here c (omega (arith, ends, right)) in
-            rw (eq-eqb (record_of s).step.code 1 k) e
-
-  -- ---- what the end says
-
-  module _ {end : ℕ} (e : end ≡ begin_end) where
-    pub plain : end ≡ 0 → Empty (record_of s).step
-    plain z =
-        by_record s (λ (x : Record). (x.step.code ≡ 1 → ⊥) → Empty x.step) (λ _ _. (refl, refl)) (λ _ _ _. (refl, refl)) (λ _ _. (refl, refl))
-        (λ m t _ a _. asked_empty (code_of s) (body_of s) m t a)
-        (λ h. let q : (record_of s).next ≡ 0 = sym (cond_yes (record_of s).next 0 (eq-eqb (record_of s).step.code 1 h)) ∙ sym e ∙ z in clash (cut_next s q) (is_begin h).whole)
-
-    -- the body of a begin that was read stands from 3 to its end
-    module _ (n : end ≡ 0 → ⊥) where
-      it_is : (record_of s).step.code ≡ 1
-      it_is = by_eq (record_of s).step.code 1 (λ h. h) (λ h. absurd (n (e ∙ sym (end_none h))))
-
-      here : end ≡ (record_of s).next
-      here = e ∙ cond_yes (record_of s).next 0 (eq-eqb (record_of s).step.code 1 it_is)
-
-      pub begin_header : 3 ≤ end
-      begin_header = end_header here n
-
-      pub begin_inside : end ≤ length s
-      begin_inside = end_inside here n
-
-      pub begin_step_lem : begin_step (take (end - 3) (drop 3 s)) ≡ (record_of s).step
-      begin_step_lem = ap begin_step (end_body here n) ∙ (is_begin it_is).step
+pub same_brief : (a b : Option (Whole Brief)) → brief_read a ≡ brief_read b → a ≡ b
+unfolding brief_of
+same_brief None None e = refl
+same_brief None (Some w) e = let k : 0 ≡ (whole_brief w.length w.step).next = ap (λ (x : BriefRecord). x.next) e in absurd (omega (arith, behind_brief w.length w.step))
+same_brief (Some w) None e = let k : (whole_brief w.length w.step).next ≡ 0 = ap (λ (x : BriefRecord). x.next) e in absurd (omega (arith, behind_brief w.length w.step))
+same_brief (Some w) (Some v) e = let h = same_whole_brief w.length v.length w.step v.step e in ap₂ (λ (n : ℕ) (a : Result Brief Refusal). Some (record { length = n; step = a })) h.0 h.1

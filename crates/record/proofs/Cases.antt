@@ -9,8 +9,7 @@ use Rattle.kit.specs.Lists.{listed}
 use Rattle.kit.specs.Range.{number}
 use Rattle.sets.specs.Sets.{member, size}
 use Rattle.record.specs.Bodies.{entry_at, by_item, begin_length, begin_step, tell_step, place_step, site_step, retire_step, read_step}
-use Rattle.record.specs.Records.{asked, refused, taken, body_read, is_cut, record_of}
-use Rattle.record.specs.declared.Record.{Record}
+use Rattle.record.specs.Records.{Record, asked, refused, taken, body_read, is_cut, record_of}
 use Rattle.record.specs.declared.Step.{Step}
 
 -- n records, one behind the other

@@ -39,56 +39,59 @@ entry_le start w s i h = let l : w * number i (member s) ≤ w * 24 = mul-le-mul
 
 -- ---- the loop
 
-module _ {A : Type 0} (none : A) (f : ℕ → A) (start w s : ℕ) where
-  -- what the set says of an item
-  abbrev pub entry : ℕ → A
-  entry i = cond (member s i) (f (entry_at start w s i)) none
-
-  -- the entries of the first i are read into r, and `at` is where the next begins
-  pub record Read (at : ℕ) (r : List A) (i : ℕ) : Type 0 where
-    pub at_is : at ≡ entry_at start w s i
-    pub filled : Filled none 24 entry i r
-
-  -- there is none for a number that is no item
-  no_entry : {at : ℕ} {r : List A} (i : ℕ) → member s i ≡ false → Read at r i → Read at r (i + 1)
-  no_entry {r = r} i e v = record {
-    at_is = v.at_is ∙ sym (entry_same start w s i e);
-    filled = filled_skip none 24 entry i r (sym (cond_no (f (entry_at start w s i)) none e)) v.filled;
-  }
-
-  pub record Walked (left at : ℕ) (r : List A) : Type 0 where
+-- `at` is where the entry of the next item begins
+module _ (start w s : ℕ) where
+  pub record Placed (left at : ℕ) : Type 0 where
     pub small : s < 2 ^ 24
-    pub done : Done 24 s (Read at r) left
+    pub done : Done 24 s (λ i. at ≡ entry_at start w s i) left
 
-  pub walked_start : s < 2 ^ 24 → Walked s start (replicate 24 none)
-  walked_start h =
-      record { small = h; done = done_start (omega arith) (record { at_is = sym (entry_first start w s); filled = filled_start none 24 entry }) }
+  pub placed_start : s < 2 ^ 24 → Placed s start
+  placed_start h = record { small = h; done = done_start (omega arith) (sym (entry_first start w s)) }
 
-  module _ {left at : ℕ} {r : List A} (v : Walked left at r) where
-    pub walked_room : at ≤ start + w * 24
-    walked_room = rw v.done.so_far.at_is (entry_le start w s v.done.from v.done.in_reach)
+  passed : {at : ℕ} (i : ℕ) → member s i ≡ false → at ≡ entry_at start w s i → at ≡ entry_at start w s (i + 1)
+  passed i e h = h ∙ sym (entry_same start w s i e)
+
+  module _ {left at : ℕ} (v : Placed left at) where
+    pub placed_room : at ≤ start + w * 24
+    placed_room = rw v.done.so_far (entry_le start w s v.done.from v.done.in_reach)
 
     module _ (ne : left ≡ 0 → ⊥) where
-      pub walked_item : count_trailing_zeros 32 left < 24
-      walked_item = done_below v.done ne 24 v.small
+      pub placed_item : count_trailing_zeros 32 left < 24
+      placed_item = done_below v.done ne 24 v.small
 
-      pub walked_turn : (a : A) → a ≡ f at → Walked (bit_and left (left - 1)) (at + w) (set r (count_trailing_zeros 32 left) a)
-      walked_turn a e =
-          let i = count_trailing_zeros 32 left in
-          let m : member s i ≡ true = done_in v.done ne in
-          let b : Read at r i = done_before no_entry v.done ne in record {
-            small = v.small;
-            done =
-                done_more v.done ne walked_item
-                (record {
-                  at_is = sym (entry_next start w s i m ∙ ap (λ (x : ℕ). x + w) (sym b.at_is));
-                  filled = filled_put none 24 entry i r a walked_item (e ∙ ap f b.at_is ∙ sym (cond_yes _ none m)) b.filled;
-                });
-          }
+      placed_at : at ≡ entry_at start w s (count_trailing_zeros 32 left)
+      placed_at = done_before passed v.done ne
 
-      pub walked_less : bit_and left (left - 1) < left
-      walked_less = done_less v.done ne
+      pub placed_turn : Placed (bit_and left (left - 1)) (at + w)
+      placed_turn = record {
+        small = v.small;
+        done = done_more v.done ne placed_item (ap (λ (x : ℕ). x + w) placed_at ∙ sym (entry_next start w s (count_trailing_zeros 32 left) (done_in v.done ne)));
+      }
 
-    pub walked_end : left ≡ 0 → r ≡ by_item none f start w s
-    unfolding by_item
-    walked_end z = filled_end none 24 entry 24 r (omega arith) (done_over no_entry v.done z).filled
+      pub placed_less : bit_and left (left - 1) < left
+      placed_less = done_less v.done ne
+
+  -- the entries of the items that are gone are read into r
+  module _ {A : Type 0} (none : A) (f : ℕ → A) where
+    -- what the set says of an item
+    abbrev entry : ℕ → A
+    entry i = cond (member s i) (f (entry_at start w s i)) none
+
+    abbrev pub Walked : ℕ → List A → Type 0
+    Walked left r = Done 24 s (λ i. Filled none 24 entry i r) left
+
+    pub walked_start : s < 2 ^ 24 → Walked s (replicate 24 none)
+    walked_start h = done_start (omega arith) (filled_start none 24 entry)
+
+    no_entry : {r : List A} (i : ℕ) → member s i ≡ false → Filled none 24 entry i r → Filled none 24 entry (i + 1) r
+    no_entry {r} i e v = filled_skip none 24 entry i r (sym (cond_no (f (entry_at start w s i)) none e)) v
+
+    module _ {left : ℕ} {r : List A} (v : Walked left r) where
+      pub walked_turn : {at : ℕ} → Placed left at → (left ≡ 0 → ⊥) → (a : A) → a ≡ f at → Walked (bit_and left (left - 1)) (set r (count_trailing_zeros 32 left) a)
+      walked_turn p ne a e =
+          done_more v ne (placed_item p ne)
+          (filled_put none 24 entry (count_trailing_zeros 32 left) r a (placed_item p ne) (e ∙ ap f (placed_at p ne) ∙ sym (cond_yes _ none (done_in v ne))) (done_before no_entry v ne))
+
+      pub walked_end : left ≡ 0 → r ≡ by_item none f start w s
+      unfolding by_item
+      walked_end z = filled_end none 24 entry 24 r (omega arith) (done_over no_entry v z)

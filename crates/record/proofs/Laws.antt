@@ -16,9 +16,8 @@ use Rattle.kit.proofs.Listings.{length_listed, listed_at, replicate_at}
 use Rattle.sets.specs.Sets.{member, of_items}
 use Rattle.sets.proofs.Members.{items_of}
 use Rattle.record.specs.Bodies.{blank_step, entry_at, by_item, stamp_at, value_at, base_of, update_of, values_from, begin_step, tell_step, place_step, site_step, retire_step, read_step}
-use Rattle.record.specs.Records.{code_of, length_of, end_of, body_of, Asked, asked, refused, taken, answered, body_read, is_cut, record_of}
+use Rattle.record.specs.Records.{Record, code_of, length_of, end_of, body_of, Asked, asked, refused, taken, answered, body_read, is_cut, record_of}
 use Rattle.record.specs.Records.Asked.{unknown, known}
-use Rattle.record.specs.declared.Record.{Record}
 use Rattle.record.specs.declared.Step.{Step}
 use Rattle.record.proofs.Frames.{not_cut, record_cut, record_whole}
 

@@ -1,6 +1,5 @@
 -- What the proofs of `record` and the layers above cite.
 pub mod Items
-pub mod Codes
 pub mod Frames
 pub mod Cases
 pub mod Laws

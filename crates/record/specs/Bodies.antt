@@ -1,5 +1,5 @@
 -- The bodies of records, each as the step that it stands for. A field that a body is too short for is 0; such a record is refused.
-use Rattle.std.specs.Prelude.{ℕ, ◌+◌, ◌*◌, cond, List, ℤ, pos, replicate}
+use Rattle.std.specs.Prelude.{ℕ, ◌+◌, ◌*◌, ◌≡◌, cond, List, ℤ, pos, replicate}
 use Rattle.std.specs.Int.{w32}
 use Rattle.std.proofs.Common.{to_z}
 use Rattle.kit.specs.Bytes.{field_at}
@@ -45,6 +45,10 @@ blank_step = record {
   stamps = replicate 24 0;
   values = replicate 24 (pos 0);
 }
+
+-- a step with neither stamps nor values
+abbrev pub numberless : Step → Type 0
+numberless t = (t.stamps ≡ replicate 24 0) × (t.values ≡ replicate 24 (pos 0))
 
 -- ---- "Begin: site, clock, base set, update set, stamps by rising item, values by rising item"
 

@@ -1,10 +1,34 @@
 -- A record: its frame, what its code asks for, and how it is refused.
-use Rattle.std.specs.Prelude.{ℕ, ◌+◌, Bool, ◌&&◌, ◌||◌, cond, List, eqb, leb, ltb, ℤ, length, get_or, take, drop}
+use Rattle.std.specs.Prelude.{ℕ, ◌+◌, Bool, ◌&&◌, ◌||◌, cond, List, eqb, leb, ltb, ℤ, length, get_or, take, drop, Option, None, Some, Result, Ok, Err}
 use Rattle.kit.specs.Bytes.{field_at}
 use Rattle.record.specs.Bodies.{blank_step, begin_length, begin_step, tell_step, place_step, site_step, retire_step, read_step}
 use Rattle.record.specs.declared.Brief.{Brief}
-use Rattle.record.specs.declared.Record.{Record}
 use Rattle.record.specs.declared.Step.{Step}
+use Rattle.record.specs.declared.Whole.{Whole}
+use Rattle.refusals.specs.Numbers.{number_of}
+use Rattle.refusals.specs.declared.Refusal.{Refusal}
+
+-- ---- records as they are read
+
+-- document 01's number (0, 2 or 17); where the next record starts, 0 where this one is cut; the step, blank where it is refused
+pub record Record : Type 0 where
+  pub number : ℕ
+  pub next : ℕ
+  pub step : Step
+
+-- the same without a begin's stamps and values
+pub record BriefRecord : Type 0 where
+  pub number : ℕ
+  pub next : ℕ
+  pub code : ℕ
+  pub site : ℕ
+  pub to : ℕ
+  pub item : ℕ
+  pub place : ℕ
+  pub clock : ℕ
+  pub stamp : ℕ
+  pub base : ℕ
+  pub update : ℕ
 
 -- ---- "A record is code, body length in 2 bytes, body."
 
@@ -71,7 +95,7 @@ record_of s = cond (is_cut s) (refused 17 0) (body_read (code_of s) (body_of s) 
 
 -- ---- a record without a begin's stamps and values
 
-unfoldable pub brief_of : Record → Brief
+unfoldable pub brief_of : Record → BriefRecord
 brief_of r = record {
   number = r.number;
   next = r.next;
@@ -101,3 +125,48 @@ step_from r stamps values = record {
   stamps = stamps;
   values = values;
 }
+
+-- a step without these
+abbrev pub outline : Step → Brief
+outline t = record {
+  code = t.code;
+  clock = t.clock;
+  site = t.site;
+  base = t.base;
+  to = t.to;
+  update = t.update;
+  item = t.item;
+  stamp = t.stamp;
+  place = t.place;
+}
+
+-- ---- the record that stands for what a reader gives back: three header bytes and the body, and the step or why it is none
+
+abbrev pub whole_read : ℕ → Result Step Refusal → Record
+whole_read n (Ok t) = taken (3 + n) t
+whole_read n (Err r) = refused (number_of r) (3 + n)
+
+abbrev pub record_read : Option (Whole Step) → Record
+record_read None = refused 17 0
+record_read (Some w) = whole_read w.length w.step
+
+-- and without a begin's stamps and values
+abbrev pub whole_brief : ℕ → Result Brief Refusal → BriefRecord
+whole_brief n (Ok b) = record {
+  number = 0;
+  next = 3 + n;
+  code = b.code;
+  site = b.site;
+  to = b.to;
+  item = b.item;
+  place = b.place;
+  clock = b.clock;
+  stamp = b.stamp;
+  base = b.base;
+  update = b.update;
+}
+whole_brief n (Err r) = brief_of (refused (number_of r) (3 + n))
+
+abbrev pub brief_read : Option (Whole Brief) → BriefRecord
+brief_read None = brief_of (refused 17 0)
+brief_read (Some w) = whole_brief w.length w.step

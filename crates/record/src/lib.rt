@@ -4,14 +4,15 @@
 
 mod body;
 
-ghost use Rattle.std.specs.Prelude.{cond, [], ◌≡◌, eqb};
-ghost use Rattle.record.specs.Bodies.{blank_step};
-ghost use Rattle.record.specs.Records.{body_read, refused, record_of, brief_of};
+ghost use Rattle.std.specs.Prelude.{◌≡◌, ◌+◌, true, false, length, MatchOption};
+ghost use Rattle.record.specs.Bodies.{blank_step, begin_step, numberless};
+ghost use Rattle.record.specs.Records.{body_of, body_read, is_cut, record_of, brief_of, outline, step_from, record_read, whole_brief, brief_read};
 
 use crate::body::{
     begin_length, begin_numbers, read_begin, read_one_place, read_one_site, read_read, read_retire,
     read_tell,
 };
+use refusals::Refusal;
 
 // Any of the eight steps. Each uses the fields that are named here; the others are 0.
 //     1 begin            site, clock, base, update, stamps, values
@@ -21,7 +22,8 @@ use crate::body::{
 //     7 retire           stamp
 //     8 read             site, item
 // The sets have bit i set for item i; stamps and values are by item, 0 for an item outside the base set and the update set.
-#[derive(Clone, Copy)]
+// Stays: a struct with a code and no enum, by what may not change: a caller may hand in any code, and `steps::step` gives 2 for one that is no step.
+#[derive(Clone, Copy, Debug, PartialEq, Eq)]
 pub struct Step {
     pub code: u8,
     pub site: u8,
@@ -36,21 +38,10 @@ pub struct Step {
     pub values: [i32; 24],
 }
 
-// A record as it was read: document 01's number (0, 2 or 17); where the next record starts, 0 where this one is cut; the step, blank
-// where it is refused.
-#[derive(Clone, Copy)]
-pub struct Record {
-    pub number: u8,
-    pub next: usize,
-    pub step: Step,
-}
-
-// A record without a begin's stamps and values, which no other step has: its number, where the next one starts, and the fields of its step.
-// Small fields stand between large ones, so that no two are stored in one word.
-#[derive(Clone, Copy)]
+// A step without a begin's stamps and values, which no other step has. Small fields stand between large ones, so that no two are stored in
+// one word.
+#[derive(Clone, Copy, Debug, PartialEq, Eq, Default)]
 pub struct Brief {
-    pub number: u8,
-    pub next: usize,
     pub code: u8,
     pub clock: u32,
     pub site: u8,
@@ -62,147 +53,144 @@ pub struct Brief {
     pub place: u8,
 }
 
+// A whole record: how many bytes its body has, and its step, or why it is none (document 01's 2 or 17).
+#[derive(Clone, Copy, Debug, PartialEq, Eq)]
+pub struct Whole<S> {
+    pub length: u16,
+    pub step: Result<S, Refusal>,
+}
+
+impl<S: Copy> Whole<S> {
+    // How many bytes it has: three, and its body.
+    pub fn size(&self) -> usize
+        ensures { result ≡ 3 + self.now.length }
+    {
+        3 + usize::from(self.length)
+    }
+}
+
+impl Step {
+    // It without its stamps and values.
+    pub fn brief(&self) -> Brief
+        ensures { result ≡ outline self.now }
+    {
+        Brief {
+            code: self.code,
+            clock: self.clock,
+            site: self.site,
+            base: self.base,
+            to: self.to,
+            update: self.update,
+            item: self.item,
+            stamp: self.stamp,
+            place: self.place,
+        }
+    }
+}
+
+impl Brief {
+    // It with these stamps and values.
+    pub fn with(self, stamps: [u64; 24], values: [i32; 24]) -> Step
+        ensures { result ≡ step_from self stamps values }
+    {
+        Step {
+            code: self.code,
+            site: self.site,
+            to: self.to,
+            item: self.item,
+            place: self.place,
+            clock: self.clock,
+            stamp: self.stamp,
+            base: self.base,
+            update: self.update,
+            stamps,
+            values,
+        }
+    }
+}
+
 // No step: every field 0.
 pub fn blank_step() -> Step
     ensures { result ≡ blank_step }
 {
-    Step {
-        code: 0,
-        site: 0,
-        to: 0,
-        item: 0,
-        place: 0,
-        clock: 0,
-        stamp: 0,
-        base: 0,
-        update: 0,
-        stamps: [0u64; 24],
-        values: [0i32; 24],
-    }
+    Brief::default().with([0; 24], [0; 24])
 }
 
-// A record with no step: a refused one, and with number 0 what a reader starts from.
-fn no_step(number: u8, next: usize) -> Brief
-    ensures { result ≡ brief_of (refused number next) }
+// The body of the record that bytes start with; none where the record is cut.
+#[tactic(auto, unfolding(crate::specs::Records::is_cut), using(kit::proofs::Fields::field_lt))]
+fn body_of(bytes: &[u8]) -> Option<&[u8]>
+    ensures { MatchOption result (is_cut bytes.now ≡ true) (λ b. (is_cut bytes.now ≡ false) × (b.now ≡ body_of bytes.now)) }
 {
-    Brief {
-        number,
-        next,
-        code: 0,
-        site: 0,
-        to: 0,
-        item: 0,
-        place: 0,
-        clock: 0,
-        stamp: 0,
-        base: 0,
-        update: 0,
-    }
+    let rest = bytes.get(3..)?;
+    let length = kit::read_field(bytes, 1, 2) as usize;
+    rest.get(..length)
 }
 
-// What is read where no bytes are left: a cut record.
-pub fn no_record() -> Brief
-    ensures { result ≡ brief_of (record_of []) }
-{
-    no_step(17, 0)
-}
-
-// A complete record, by its code: how many bytes its body must have, and its step.
-fn read_body(code: u8, body: &[u8], next: usize) -> Brief
-    ensures { result ≡ brief_of (body_read code body.now next) }
+// The step of a body, by its code: each arm says how many bytes the body must have, and who reads it.
+// Stays: document 01 names the form: "Step code matched over eight values and ranges, choosing body length and step".
+#[tactic(auto, unfolding(crate::specs::Records::asked, crate::specs::Records::body_read, crate::specs::Records::brief_of))]
+fn read_body(code: u8, body: &[u8]) -> Result<Brief, Refusal>
+    ensures { whole_brief (length body.now) result ≡ brief_of (body_read code body.now (3 + length body.now)) }
 {
     match code {
-        1 => read_begin(begin_length(body), body, next),
-        2 => read_tell(7, body, next),
-        3..=4 => read_one_place(1, code, body, next),
-        5..=6 => read_one_site(1, code, body, next),
-        7 => read_retire(5, body, next),
-        8 => read_read(2, body, next),
-        0 | 9..=255 => no_step(2, next),
+        1 if body.len() == begin_length(body) => Ok(read_begin(body)),
+        2 if body.len() == 7 => Ok(read_tell(body)),
+        3..=4 if body.len() == 1 => Ok(read_one_place(code, body)),
+        5..=6 if body.len() == 1 => Ok(read_one_site(code, body)),
+        7 if body.len() == 5 => Ok(read_retire(body)),
+        8 if body.len() == 2 => Ok(read_read(body)),
+        1..=8 => Err(Refusal::WrongRecord),
+        0 | 9..=255 => Err(Refusal::NoSuchStep),
     }
 }
 
-// Where the record that bytes start with ends, and 0 where it is cut.
-fn end_of(bytes: &[u8]) -> usize
-    ensures { result ≡ (record_of bytes.now).next }
+// The record that bytes start with, none where it is cut: an unknown code is 2, else a wrong length is 17.
+#[tactic(auto, unfolding(crate::specs::Records::record_of), using(crate::proofs::Laws::has_header, crate::proofs::Laws::length_body, kit::proofs::Fields::field_lt))]
+pub fn read_brief(bytes: &[u8]) -> Option<Whole<Brief>>
+    ensures { brief_read result ≡ brief_of (record_of bytes.now) }
 {
-    let len = bytes.len();
-    if len < 3 {
-        return 0;
-    }
-    let n = kit::read_field(bytes, 1, 2) as usize;
-    let end = 3 + n;
-    if len < end {
-        return 0;
-    }
-    end
+    let body = body_of(bytes)?;
+    Some(Whole {
+        length: body.len() as u16,
+        step: read_body(bytes[0], body),
+    })
 }
 
-// The record that bytes start with: a cut record is 17, else an unknown code is 2, else a wrong length is 17.
-pub fn read_brief(bytes: &[u8]) -> Brief
-    ensures { result ≡ brief_of (record_of bytes.now) }
+// The body of the begin that bytes start with; none where the record is another step or refused.
+#[tactic(auto, unfolding(crate::specs::Records::asked, crate::specs::Records::body_read, crate::specs::Records::record_of, crate::specs::Bodies::tell_step, crate::specs::Bodies::place_step, crate::specs::Bodies::site_step, crate::specs::Bodies::retire_step, crate::specs::Bodies::read_step), using(crate::proofs::Laws::has_header))]
+fn begin_of(bytes: &[u8]) -> Option<&[u8]>
+    ensures { MatchOption result (numberless (record_of bytes.now).step) (λ b. begin_step b.now ≡ (record_of bytes.now).step) }
 {
-    let end = end_of(bytes);
-    if end == 0 {
-        return no_step(17, 0);
+    let body = body_of(bytes)?;
+    if bytes[0] == 1 && body.len() == begin_length(body) {
+        Some(body)
+    } else {
+        None
     }
-    read_body(bytes[0], &bytes[3..end], end)
 }
 
-// Where a begin ends, and 0 where the record that bytes start with is another step or refused.
-fn end_of_begin(bytes: &[u8]) -> usize
-    ensures { result ≡ cond (eqb (record_of bytes.now).step.code 1) (record_of bytes.now).next 0 }
-{
-    let end = end_of(bytes);
-    if end == 0 {
-        return 0;
-    }
-    if bytes[0] != 1 {
-        return 0;
-    }
-    if end - 3 != begin_length(&bytes[3..end]) {
-        return 0;
-    }
-    end
-}
-
-// Its stamps and values by item, into two arrays that are lent: those of a begin, and 0 where it is another step or refused.
-pub fn read_numbers<'a>(bytes: &[u8], stamps: &'a mut [u64; 24], values: &'a mut [i32; 24])
+// The stamps and values, by item, of the begin that bytes start with, into two arrays that are lent; 0 where it is another step or refused.
+pub fn read_numbers(bytes: &[u8], stamps: &mut [u64; 24], values: &mut [i32; 24])
     ensures stamps { stamps.new ≡ (record_of bytes.now).step.stamps }
     ensures values { values.new ≡ (record_of bytes.now).step.values }
 {
-    let end = end_of_begin(bytes);
-    if end == 0 {
-        *stamps = [0u64; 24];
-        *values = [0i32; 24];
-        return;
+    *stamps = [0; 24];
+    *values = [0; 24];
+    if let Some(body) = begin_of(bytes) {
+        begin_numbers(body, stamps, values);
     }
-    begin_numbers(&bytes[3..end], stamps, values);
 }
 
-// The whole record.
-pub fn read_record(bytes: &[u8]) -> Record
-    ensures { result ≡ record_of bytes.now }
+// The same record with a begin's stamps and values.
+pub fn read_record(bytes: &[u8]) -> Option<Whole<Step>>
+    ensures { record_read result ≡ record_of bytes.now }
 {
-    let r = read_brief(bytes);
+    let whole = read_brief(bytes)?;
     let mut stamps = [0u64; 24];
     let mut values = [0i32; 24];
     read_numbers(bytes, &mut stamps, &mut values);
-    Record {
-        number: r.number,
-        next: r.next,
-        step: Step {
-            code: r.code,
-            site: r.site,
-            to: r.to,
-            item: r.item,
-            place: r.place,
-            clock: r.clock,
-            stamp: r.stamp,
-            base: r.base,
-            update: r.update,
-            stamps,
-            values,
-        },
-    }
+    Some(Whole {
+        length: whole.length,
+        step: whole.step.map(|brief| brief.with(stamps, values)),
+    })
 }

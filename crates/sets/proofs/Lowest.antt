@@ -133,9 +133,6 @@ module _ (s : ℕ) (t : ℕ → Bool) where
     pub sought_item : count_trailing_zeros 32 left < 32
     sought_item = item_small s v.from left ne v.fits v.left_is
 
-    pub sought_below : (k : ℕ) → s < 2 ^ k → count_trailing_zeros 32 left < k
-    sought_below k h = item_below s v.from left ne v.fits v.left_is k h
-
     pub sought_less : bit_and left (left - 1) < left
     sought_less = left_falls s v.from left ne v.fits v.left_is
 
@@ -173,9 +170,6 @@ pub done_start : {n s : ℕ} {P : ℕ → Type 0} → s < 2 ^ 32 → P 0 → Don
 done_start {s = s} h p = record { from = 0; in_reach = omega arith; fits = h; left_is = left_all s; so_far = p }
 
 module _ {n s : ℕ} {P : ℕ → Type 0} {left : ℕ} (v : Done n s P left) (ne : left ≡ 0 → ⊥) where
-  pub done_item : count_trailing_zeros 32 left < 32
-  done_item = item_small s v.from left ne v.fits v.left_is
-
   pub done_in : member s (count_trailing_zeros 32 left) ≡ true
   done_in = item_in s v.from left ne v.fits v.left_is
 

@@ -5,14 +5,9 @@ use std::env::FillError;
 use std::io;
 use std::rt::Env;
 
-// Whether the program has an argument of that number; argument 0 is its own name.
-fn has_argument(rt: HostRuntime, i: usize) -> bool {
-    let mut byte = [0u8; 1];
-    !matches!(rt.arg(i, &mut byte), Err(FillError::NotPresent))
-}
-
+// Stays: the argument is asked for by its number, since `env::args` puts all of them on the heap.
 fn main(rt: HostRuntime) -> io::Result<()> {
-    if has_argument(rt, 1) {
+    if !matches!(rt.arg(1, &mut []), Err(FillError::NotPresent)) {
         return eprintln!(rt; "usage: site_files < RECORDS");
     }
     stream::print_night_and_files(rt);

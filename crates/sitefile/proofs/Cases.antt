@@ -1,9 +1,10 @@
 -- Bench cases 10 and 11 of document 01.
-use mathlib.Core.Path.{◌≡◌, refl, sym, ap, ◌∙◌}
+use mathlib.Core.Path.{◌≡◌, refl, ap, ◌∙◌}
 use mathlib.Core.Bool.{true, false}
 use mathlib.Core.List.{List, [], ◌∷◌, map}
 use Prim.Native.Nat.{ℕ, ◌*◌, ◌+◌}
 use native.Mathlib.Omega.{arith}
+use borrow.Author.Tests.{lt-ltb}
 use lib.IntN.{pos, negsuc}
 use lib.ListN.{length, replicate}
 use Rattle.kit.specs.Range.{number, passing}
@@ -13,10 +14,8 @@ use Rattle.readings.specs.Readings.{in_range}
 use Rattle.fnv.specs.Fnv.{cut_product, fnv_step, fnv_from, fnv_of}
 use Rattle.sitefile.specs.Frame.{joined, trailer_of, checked, framed}
 use Rattle.sitefile.specs.Entries.{rate_form, measured, entries_of, file_of}
-use Rattle.sitefile.specs.Read.{wrong_reading, no_file, file_read}
+use Rattle.sitefile.specs.Read.{wrong_reading, no_site_file, no_file, file_read}
 use Rattle.sitefile.proofs.Rates.{length_file}
-use Rattle.sitefile.proofs.Refusals.{no_file_short}
-use Rattle.sitefile.proofs.Stores.{file_refused}
 
 -- "Values 8,640,000 and -8,640,000 pass; one beyond": not, at an entry with the stamp 8001
 pub case_10 : map (wrong_reading 8001) (pos 8640000 ∷ negsuc 8639999 ∷ pos 8640001 ∷ negsuc 8640000 ∷ []) ≡ (false ∷ false ∷ true ∷ true ∷ [])
@@ -38,4 +37,5 @@ case_11_bytes = refl
 
 -- "Seven bytes: 18."
 pub case_11_short : (b : List ℕ) → length b ≡ 7 → file_read b ≡ no_file
-case_11_short b e = sym (file_refused b true (no_file_short b (omega arith)) refl)
+unfolding file_read no_site_file
+case_11_short b e = rw (lt-ltb (length b) 8 (omega arith)) refl

@@ -5,14 +5,20 @@ use Prim.Native.Nat.{ℕ, ◌+◌, ◌-◌, ◌*◌, ◌≤◌, ◌<◌}
 use native.Mathlib.Nat.{add_assoc}
 use native.Mathlib.Omega.{arith}
 use lib.Dec.{lit≤}
-use lib.ListN.{length, take, drop, length-append}
+use lib.ListN.{length, get_or, take, drop, length-append}
 use lib.Seq.{take_at, take-add, take_all, drop-drop}
+use mir.Syntax.{w8, w16}
+use mir.Val.{Fits}
 use Rattle.kit.specs.Bytes.{bytes_of, field_at}
-use Rattle.kit.proofs.Fields.{length_bytes, field_read, field_written}
+use Rattle.kit.proofs.Fields.{length_bytes, field_lt, field_read, field_written}
 use Rattle.fnv.specs.Fnv.{fnv_of}
 use Rattle.fnv.proofs.Laws.{fnv_lt}
 use Rattle.sitefile.specs.Frame.{trailer_of, checked, site_in, count_in, distance_in, check_in}
 use Rattle.sitefile.proofs.Forms.{Bytes}
+
+-- two bytes make a number of 16 bits
+pub field_half : {r : ℕ} (b : List ℕ) (at : ℕ) → ((i : ℕ) → Fits w8 (get_or b i 0)) → r ≡ field_at b at 2 → Fits w16 r
+field_half b at small e = record { fits = rw e (field_lt b at 2 (λ i. (small i).fits)) }
 
 -- b ends in the trailer of n entries of w bytes
 pub record Framed (w site n : ℕ) (b : List ℕ) : Type 0 where

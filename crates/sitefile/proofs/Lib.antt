@@ -3,8 +3,8 @@
 pub mod Forms
 pub mod Frames
 pub mod Tellings
+pub mod Chains
 -- What the reader's code asks and stores, and what the writer's code writes.
-pub mod Refusals
 pub mod Stores
 pub mod Rates
 pub mod Writes
@@ -14,3 +14,5 @@ pub mod Backs
 pub mod RoundTrips
 pub mod Writable
 pub mod Cases
+-- That what the code answers says no more and no less than document 01's number and values.
+pub mod Told

@@ -1,5 +1,5 @@
 -- What holds of a list of bytes that the reader takes, and that nothing else is asked of one.
-use mathlib.Core.Path.{◌≡◌, refl}
+use mathlib.Core.Path.{◌≡◌, refl, sym, ap, ◌∙◌}
 use mathlib.Core.Bool.{true, false, not, ◌||◌}
 use mathlib.Core.List.{List}
 use Prim.Native.Nat.{ℕ, suc, ◌+◌, ◌-◌, ◌*◌, ◌≤◌, ◌<◌}
@@ -58,6 +58,20 @@ module _ (entry : ℕ → Entry) (k : ℕ) where
   pub entry_not_wrong : Right entry k → wrong_entry entry k ≡ false
   unfolding wrong_entry
   entry_not_wrong r = rw (r.rising, le-ltb 23 (entry k).item r.low, r.reading)
+
+-- the first entry rises, and a later one where its item is above that of the one before
+pub rises_first : (entry : ℕ → Entry) (k : ℕ) → k ≡ 0 → true ≡ rises entry k
+unfolding rises
+rises_first entry k e = rw e
+
+pub rises_next : (entry : ℕ → Entry) (k : ℕ) (last own : Entry) → (k ≡ 0 → ⊥) → last ≡ entry (k - 1) → own ≡ entry k → ltb last.item own.item ≡ rises entry k
+unfolding rises
+rises_next entry k last own ne a b =
+    let q : k ≡ suc (k - 1) = omega (arith, ne) in
+    rw (a, b) (ap (λ (j : ℕ). ltb (entry (k - 1)).item (entry j).item) q ∙ step (k - 1) ∙ ap (rises entry) (sym q))
+  where
+    step : (j : ℕ) → ltb (entry j).item (entry (suc j)).item ≡ rises entry (suc j)
+    step j = refl
 
 -- items that rise
 pub rising_items : (entry : ℕ → Entry) (n : ℕ) → ((k : ℕ) → k < n → rises entry k ≡ true) → Rising (λ k. (entry k).item) n
@@ -120,3 +134,7 @@ module _ (b : List ℕ) where
   pub taken_length : no_site_file b ≡ false → (8 ≤ length b) × (length b ≤ 248)
   unfolding rate_form
   taken_length e = let t = (taken e).1 in (omega (arith, t.frame.size), omega (arith, t.frame.size, t.few))
+
+  -- the item of an entry has its place
+  pub item_low : (k : ℕ) → no_site_file b ≡ false → k < count_in b → (entry_at rate_form b k).item < 24
+  item_low k e h = let low : (entry_at rate_form b k).item ≤ 23 = ((taken e).1.entries k h).low in omega arith

@@ -1,5 +1,5 @@
 -- Document 01, "The site file": the entries.
-use Rattle.std.specs.Prelude.{ℕ, zero, suc, ◌+◌, Bool, not, cond, List, [], map, ◌++◌, eqb, ℤ, pos, get_or}
+use Rattle.std.specs.Prelude.{ℕ, zero, suc, ◌+◌, Bool, not, cond, List, map, ◌++◌, eqb, ℤ, pos, get_or}
 use Rattle.std.specs.Int.{w32}
 use Rattle.std.proofs.Common.{to_z, of_z}
 use Rattle.kit.specs.Range.{passing}
@@ -30,10 +30,6 @@ entries_of stamps values = map (entry_of stamps values) (passing 24 (measured st
 -- the site file of some readings
 unfoldable pub file_of : ℕ → List ℕ → List ℤ → List ℕ
 file_of site stamps values = framed rate_form site (entries_of stamps values)
-
--- the bytes of one item: its entry, or none where it was never measured
-unfoldable pub item_bytes : Entry → List ℕ
-item_bytes e = cond (eqb e.stamp 0) [] (rate_form.bytes e)
 
 -- what the first n entries tell of an item, and d where none is of it
 unfoldable pub told : {A : Type 0} → A → (ℕ → ℕ) → (ℕ → A) → ℕ → ℕ → A

@@ -1,14 +1,16 @@
 -- Document 01, "The site file": which bytes are refused as 18, and what the others say.
-use Rattle.std.specs.Prelude.{ℕ, zero, suc, ◌+◌, ◌-◌, ◌*◌, Bool, true, not, ◌||◌, cond, List, eqb, ltb, ℤ, pos, length, take, set, replicate}
+use Rattle.std.specs.Prelude.{ℕ, zero, suc, ◌+◌, ◌-◌, ◌*◌, Bool, true, not, ◌||◌, cond, List, eqb, ltb, ℤ, pos, length, take, set, replicate, Result, Ok, Err}
 use Rattle.kit.specs.Range.{any}
 use Rattle.kit.specs.Lists.{listed}
 use Rattle.stamps.specs.Stamps.{issued_form}
 use Rattle.readings.specs.Readings.{in_range}
 use Rattle.fnv.specs.Fnv.{fnv_of}
+use Rattle.refusals.specs.Numbers.{number_of}
+use Rattle.refusals.specs.declared.Refusal.{Refusal}
 use Rattle.sitefile.specs.Frame.{entry_at, site_in, count_in, distance_in, check_in}
 use Rattle.sitefile.specs.Entries.{rate_form, told}
 use Rattle.sitefile.specs.declared.Entry.{Entry}
-use Rattle.sitefile.specs.declared.SiteFile.{SiteFile}
+use Rattle.sitefile.specs.declared.SiteFile as code
 
 -- "length not 10 × count + 8", for entries of w bytes
 unfoldable pub wrong_length : ℕ → List ℕ → Bool
@@ -51,6 +53,13 @@ no_site_file b =
     || (wrong_check b
     || any (count_in b) (wrong_entry (entry_at rate_form b)))))))
 
+-- what the reader answers: document 01's number, 0 or 18, and the site's readings, all zeros beside 18
+pub record SiteFile : Type 0 where
+  pub number : ℕ
+  pub site : ℕ
+  pub stamps : List ℕ
+  pub values : List ℤ
+
 -- the readings of the first n entries: an item of which none tells is blank
 unfoldable pub readings_of : ℕ → (ℕ → Entry) → ℕ → SiteFile
 readings_of site entry n = record {
@@ -71,3 +80,11 @@ no_file = record { number = 18; site = 0; stamps = replicate 24 0; values = repl
 -- what the reader answers
 unfoldable pub file_read : List ℕ → SiteFile
 file_read b = cond (no_site_file b) no_file (readings_of (site_in b) (entry_at rate_form b) (count_in b))
+
+-- what the code answers, so told: readings stand beside 0, and a refusal beside zeros
+abbrev pub told_file : code.SiteFile → SiteFile
+told_file f = record { number = 0; site = f.site; stamps = f.stamps; values = f.values }
+
+abbrev pub file_answer : Result code.SiteFile Refusal → SiteFile
+file_answer (Ok f) = told_file f
+file_answer (Err r) = record { number = number_of r; site = 0; stamps = replicate 24 0; values = replicate 24 (pos 0) }

@@ -1,19 +1,18 @@
 -- The laws of stamps, each once: a stamp and its parts, well-formed stamps, issuing, and priority as a strict total order.
-use mathlib.Core.Path.{◌≡◌, refl, sym, ◌∙◌}
-use mathlib.Core.Bool.{true, false, ◌&&◌, and-false}
+use mathlib.Core.Path.{◌≡◌, refl, sym, ◌∙◌, ap}
+use mathlib.Core.Bool.{true, false, ◌&&◌}
 use mathlib.Core.List.{List}
 use mathlib.Core.Logic.{◌⊎◌, inl, inr}
 use Prim.Native.Nat.{ℕ, ◌^◌, ◌≤◌, ◌<◌}
 use native.Mathlib.Omega.{arith}
 use borrow.Author.Tests.{eq-eqb, ne_eqb, leb-true, le-leb, lt-leb, lt-ltb, ltb-true}
-use lib.Dec.{leb}
+use lib.Dec.{eqb, leb}
 use lib.ListN.{get_or}
 use Rattle.kit.proofs.Bools.{clash, by_test, by_eq, by_lt, by_le, and_left, and_right, cond_yes, cond_no}
 use Rattle.kit.proofs.Ranges.{largest_at}
 use Rattle.sets.specs.Sets.{member}
 use Rattle.stamps.specs.Stamps.{last_time, stamp_of, time_of, digit_of, issued_form, well_formed, largest_time, next_time, higher}
-use Rattle.stamps.specs.Issue.{issued}
-use Rattle.stamps.specs.declared.Issue.TheVariants as issue
+use Rattle.stamps.specs.Issue.{given, past, issued, issue_number, issue_stamp, issue_last}
 
 -- ---- a stamp and its parts
 
@@ -53,19 +52,7 @@ form_facts n stamp e =
       of_site = leb-true (digit_of stamp) n (and_right (leb 1 (digit_of stamp)) (leb (digit_of stamp) n) d);
     }
 
--- as code asks it: too early, too late, no site's digit, else the digit decides
-pub form_early : (n stamp : ℕ) → time_of stamp < 1 → false ≡ issued_form n stamp
-unfolding issued_form
-form_early n stamp h = rw (lt-leb 1 (time_of stamp) h)
-
-pub form_late : (n stamp : ℕ) → last_time < time_of stamp → false ≡ issued_form n stamp
-unfolding issued_form
-form_late n stamp h = rw (lt-leb (time_of stamp) last_time h, and-false)
-
-pub form_nobody : (n stamp : ℕ) → digit_of stamp < 1 → false ≡ issued_form n stamp
-unfolding issued_form
-form_nobody n stamp h = rw (lt-leb 1 (digit_of stamp) h, and-false)
-
+-- as code asks it: t in range and some digit, and then the digit decides
 pub form_site : (n stamp : ℕ) → 1 ≤ time_of stamp → time_of stamp ≤ last_time → 1 ≤ digit_of stamp → leb (digit_of stamp) n ≡ issued_form n stamp
 unfolding issued_form
 form_site n stamp h l d = rw (le-leb 1 (time_of stamp) h, le-leb (time_of stamp) last_time l, le-leb 1 (digit_of stamp) d)
@@ -130,16 +117,16 @@ module _ (clock last base : ℕ) (stamps : List ℕ) where
 
 module _ (site clock last base : ℕ) (stamps : List ℕ) where
   pub issued_given : next_time clock last base stamps ≤ last_time
-      → issued site clock last base stamps ≡ issue.Given (stamp_of (next_time clock last base stamps) site) (next_time clock last base stamps)
+      → issued site clock last base stamps ≡ given (stamp_of (next_time clock last base stamps) site) (next_time clock last base stamps)
   unfolding issued
   issued_given h = cond_yes _ _ (le-leb (next_time clock last base stamps) last_time h)
 
-  pub issued_past : last_time < next_time clock last base stamps → issued site clock last base stamps ≡ issue.Past
+  pub issued_past : last_time < next_time clock last base stamps → issued site clock last base stamps ≡ past
   unfolding issued
   issued_past h = cond_no _ _ (lt-leb (next_time clock last base stamps) last_time h)
 
   -- a site that has issued the last t issues no more, whatever the clock
-  pub issued_over : last ≡ last_time → issued site clock last base stamps ≡ issue.Past
+  pub issued_over : last ≡ last_time → issued site clock last base stamps ≡ past
   issued_over e = issued_past (let h : last < next_time clock last base stamps = next_last clock last base stamps in omega arith)
 
   -- what holds of a stamp that is given
@@ -152,19 +139,14 @@ module _ (site clock last base : ℕ) (stamps : List ℕ) where
     pub after_clock : clock ≤ t
     pub after_base : (i : ℕ) → i < 24 → member base i ≡ true → time_of (get_or stamps i 0) < t
 
-  pub given_facts : {stamp t : ℕ} → issued site clock last base stamps ≡ issue.Given stamp t → GivenAt stamp t
+  pub given_facts : {stamp t : ℕ} → issued site clock last base stamps ≡ given stamp t → GivenAt stamp t
   given_facts {stamp} {t} e =
-      by_le (next_time clock last base stamps) last_time (λ h. facts h (issued_given h)) (λ h. let z : ◌≡◌ {A = ℕ} 0 1 = never (issued_past h) in absurd (omega arith))
+      by_le (next_time clock last base stamps) last_time
+      (λ h. let w : given stamp t ≡ given (stamp_of (next_time clock last base stamps) site) (next_time clock last base stamps) = sym e ∙ issued_given h in facts h (ap (issue_last 0) w) (ap issue_stamp w))
+      (λ h. let w : given stamp t ≡ past = sym e ∙ issued_past h in cc)
     where
-      never : issued site clock last base stamps ≡ issue.Past → ◌≡◌ {A = ℕ} 0 1
-      never p = cc
-
-      facts : next_time clock last base stamps ≤ last_time
-          → issued site clock last base stamps ≡ issue.Given (stamp_of (next_time clock last base stamps) site) (next_time clock last base stamps)
-          → GivenAt stamp t
-      facts h g =
-          let n : t ≡ next_time clock last base stamps = cc in
-          let s : stamp ≡ stamp_of (next_time clock last base stamps) site = cc in
+      facts : next_time clock last base stamps ≤ last_time → t ≡ next_time clock last base stamps → stamp ≡ stamp_of (next_time clock last base stamps) site → GivenAt stamp t
+      facts h n s =
           let l : last < next_time clock last base stamps = next_last clock last base stamps in
           record {
             is_next = n;
@@ -176,14 +158,21 @@ module _ (site clock last base : ℕ) (stamps : List ℕ) where
             after_base = λ i k m. rw n (next_base clock last base stamps i k m);
           }
 
+  -- where the number is not 8, a stamp was given
+  pub given_unless : eqb (issue_number (issued site clock last base stamps)) 8 ≡ false → (stamp : ℕ) × (t : ℕ) × (issued site clock last base stamps ≡ given stamp t)
+  given_unless e =
+      by_le (next_time clock last base stamps) last_time
+      (λ h. (stamp_of (next_time clock last base stamps) site, next_time clock last base stamps, issued_given h))
+      (λ h. clash refl (rw (issued_past h) at e))
+
   -- it is a stamp of that site, one that some site of n may have issued
-  pub given_digit : {stamp t : ℕ} → issued site clock last base stamps ≡ issue.Given stamp t → site < 8 → digit_of stamp ≡ site
+  pub given_digit : {stamp t : ℕ} → issued site clock last base stamps ≡ given stamp t → site < 8 → digit_of stamp ≡ site
   given_digit {stamp} {t} e h = rw (given_facts e).is_stamp (digit_of_stamp t site h)
 
-  pub given_time : {stamp t : ℕ} → issued site clock last base stamps ≡ issue.Given stamp t → site < 8 → time_of stamp ≡ t
+  pub given_time : {stamp t : ℕ} → issued site clock last base stamps ≡ given stamp t → site < 8 → time_of stamp ≡ t
   given_time {stamp} {t} e h = rw (given_facts e).is_stamp (time_of_stamp t site h)
 
-  pub given_form : {stamp t : ℕ} (n : ℕ) → issued site clock last base stamps ≡ issue.Given stamp t → 1 ≤ site → site ≤ n → n ≤ 7 → issued_form n stamp ≡ true
+  pub given_form : {stamp t : ℕ} (n : ℕ) → issued site clock last base stamps ≡ given stamp t → 1 ≤ site → site ≤ n → n ≤ 7 → issued_form n stamp ≡ true
   given_form {stamp} {t} n e h l w =
       let g = given_facts e in
       let d : digit_of stamp ≡ site = given_digit e (omega arith) in
@@ -191,14 +180,14 @@ module _ (site clock last base : ℕ) (stamps : List ℕ) where
       form_of (record { from_one = rw m g.from_one; in_reach = rw m g.in_reach; digit_one = rw d h; of_site = rw d l })
 
   -- it is larger than every stamp of an earlier t
-  pub given_above : {stamp t : ℕ} → issued site clock last base stamps ≡ issue.Given stamp t → (old : ℕ) → time_of old < t → old < stamp
+  pub given_above : {stamp t : ℕ} → issued site clock last base stamps ≡ given stamp t → (old : ℕ) → time_of old < t → old < stamp
   given_above {stamp} {t} e old h = let s : stamp ≡ stamp_of t site = (given_facts e).is_stamp in omega arith
 
   -- than each base stamp of a base item, and than each that the site gave before
-  pub given_larger : {stamp t : ℕ} → issued site clock last base stamps ≡ issue.Given stamp t → (i : ℕ) → i < 24 → member base i ≡ true → get_or stamps i 0 < stamp
+  pub given_larger : {stamp t : ℕ} → issued site clock last base stamps ≡ given stamp t → (i : ℕ) → i < 24 → member base i ≡ true → get_or stamps i 0 < stamp
   given_larger {stamp} {t} e i h m = given_above e (get_or stamps i 0) ((given_facts e).after_base i h m)
 
-  pub given_new : {stamp t : ℕ} → issued site clock last base stamps ≡ issue.Given stamp t → (old : ℕ) → time_of old ≤ last → old < stamp
+  pub given_new : {stamp t : ℕ} → issued site clock last base stamps ≡ given stamp t → (old : ℕ) → time_of old ≤ last → old < stamp
   given_new {stamp} {t} e old h = given_above e old (let l : last < t = (given_facts e).after_last in omega arith)
 
 -- ---- priority: the two ways to be higher

@@ -1,3 +1,2 @@
 -- What the layers above cite of stamps.
 pub mod Laws
-mod Tops

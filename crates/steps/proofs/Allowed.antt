@@ -8,9 +8,8 @@ use lib.Dec.{eqb, leb, ltb}
 use Rattle.kit.specs.Range.{any, first}
 use Rattle.kit.proofs.Bools.{clash, and_left, and_right, or_left, or_right, by_test, by_eq}
 use Rattle.kit.proofs.Ranges.{any_at, first_hit, first_none, first_le}
-use Rattle.stamps.specs.Issue.{issue_number}
-use Rattle.stamps.specs.declared.Issue.{Issue}
-use Rattle.stamps.specs.declared.Issue.TheVariants as issue
+use Rattle.stamps.specs.Issue.{given, issue_number}
+use Rattle.stamps.proofs.Laws.{given_unless}
 use Rattle.record.specs.declared.Step.{Step}
 use Rattle.table.specs.Places.{site_at, message_at, place_at, used_place, is_site, mark_at, verdict_at}
 use Rattle.table.specs.Sound.{sets_allowed, base_stamps_allowed, values_allowed}
@@ -175,6 +174,5 @@ module _ (t : Table) (a : Step) where
       same j u z = rw (u, eq-eqb (message_at t j).request (place_of t a.stamp) z)
 
 -- a stamp was given
-pub given_of : (i : Issue) → eqb (issue_number i) 8 ≡ false → (stamp : ℕ) × (time : ℕ) × (i ≡ issue.Given stamp time)
-given_of issue.Past e = clash refl e
-given_of (issue.Given stamp time) e = (stamp, time, refl)
+pub given_of : (t : Table) (a : Step) → eqb (issue_number (issue_for t a)) 8 ≡ false → (stamp : ℕ) × (time : ℕ) × (issue_for t a ≡ given stamp time)
+given_of t a e = given_unless a.site a.clock (site_at t (a.site - 1)).last a.base a.stamps e

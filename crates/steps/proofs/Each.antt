@@ -10,7 +10,7 @@ use Rattle.table.specs.declared.data.Table.{Table}
 use Rattle.steps.specs.Answers.{Done}
 use Rattle.steps.specs.Numbers.{begin_number, tell_number, deliver_number, drop_number, down_number, up_number, retire_number, read_number}
 use Rattle.steps.specs.Steps.{begun, told, delivered, dropped, put_up, retired, readings, unless_refused, advanced}
-use Rattle.steps.specs.declared.answer.Stepped.{Stepped}
+use Rattle.steps.specs.Answers.{Stepped}
 
 -- P holds before the step, and behind each that is not refused; of the two steps at which sites speak, begin and deliver, by their code too
 pub record EachStep (t : Table) (a : Step) (P : Table → Type 0) : Type 0 where

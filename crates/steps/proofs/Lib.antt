@@ -1,9 +1,4 @@
 -- The laws of the steps.
-mod Rows
-mod Opening
-mod Advancing
-mod Arms
-mod Attending
 -- The conditions of a step, what holds behind each, and that each keeps the table sound.
 pub mod Allowed
 pub mod Each
@@ -13,3 +8,7 @@ pub mod Running
 mod Briefs
 mod Turning
 pub mod Nights
+-- What a run gives back, told.
+pub mod Told
+mod Ways
+pub mod Unrefused

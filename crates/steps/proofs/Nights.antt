@@ -10,7 +10,7 @@ use lib.ListN.{length, drop}
 use lib.Seq.{drop-append-le, drop-drop}
 use Rattle.kit.proofs.Bools.{by_test, of_cond}
 use Rattle.record.specs.Records.{is_cut, record_of}
-use Rattle.record.specs.declared.Record.{Record}
+use Rattle.record.specs.Records.{Record}
 use Rattle.record.proofs.Laws.{next_whole, whole_next, next_inside, more_bytes}
 use Rattle.table.specs.Fresh.{fresh_for}
 use Rattle.table.specs.declared.data.Table.{Table}
@@ -21,7 +21,7 @@ use Rattle.table.proofs.Meaning.{means, meant}
 use Rattle.steps.specs.Night.{answered, answered_on, line_for, lines_of, lines_from, night_of, Part, no_part, one_part, is_full, part_from, Buffered}
 use Rattle.steps.specs.Night.Buffered.{reads, runs, ends}
 use Rattle.steps.specs.Steps.{stepped}
-use Rattle.steps.specs.declared.answer.Stepped.{Stepped}
+use Rattle.steps.specs.Answers.{Stepped}
 use Rattle.steps.proofs.Running.{short_cut, rest_shorter, parted_cut, parted_whole, part_cut, part_full, part_taken}
 use Rattle.steps.proofs.Upkeep.{Well, stepped_well}
 

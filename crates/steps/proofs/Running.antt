@@ -20,17 +20,17 @@ use Rattle.lines.specs.Lines.{decimal_of, fitted}
 use Rattle.lines.proofs.Counting.{ample_length, ample_bytes, counted_line}
 use Rattle.lines.proofs.Writes.{fitted_in}
 use Rattle.plans.specs.Answers.{refusal}
-use Rattle.plans.specs.declared.answer.Answer.{Answer}
+use Rattle.plans.specs.Answers.{Answer}
 use Rattle.record.specs.Records.{is_cut, record_of}
-use Rattle.record.specs.declared.Record.{Record}
+use Rattle.record.specs.Records.{Record}
 use Rattle.record.proofs.Laws.{next_whole, whole_next, next_inside}
 use Rattle.record.proofs.Frames.{cut_header}
 use Rattle.table.specs.Sound.{sound_table}
 use Rattle.table.specs.declared.data.Table.{Table}
 use Rattle.steps.specs.Steps.{advanced}
 use Rattle.steps.specs.Night.{before, parted_by, parted, answered_on, line_for, Part, no_part, one_part, is_full, part_of, part_from, ran_as, ran, ran_into}
-use Rattle.steps.specs.declared.answer.Stepped.{Stepped}
-use Rattle.steps.specs.declared.run.Ran.{Ran}
+use Rattle.steps.specs.Answers.{Stepped}
+use Rattle.steps.specs.Night.{Ran}
 
 -- ---- the answer to a record
 

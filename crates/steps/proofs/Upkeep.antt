@@ -14,8 +14,8 @@ use Rattle.upkeep.proofs.Begins.{begun_sound}
 use Rattle.upkeep.proofs.Changing.{dropped_sound, told_sound, put_up_sound, retired_sound}
 use Rattle.upkeep.proofs.Kept.{delivered_sound}
 use Rattle.steps.specs.Numbers.{free_place, free_message, place_of, begin_number, tell_number, deliver_number, drop_number, retire_number}
-use Rattle.steps.specs.Steps.{issue_for, entered, begun, told, delivered, dropped, put_up, retired, advanced, stepped}
-use Rattle.steps.specs.declared.answer.Stepped.{Stepped}
+use Rattle.steps.specs.Steps.{entered, begun, told, delivered, dropped, put_up, retired, advanced, stepped}
+use Rattle.steps.specs.Answers.{Stepped}
 use Rattle.steps.proofs.Each.{each_step}
 use Rattle.steps.proofs.Allowed.{site_index_lem, free_place_lem, free_message_lem, named_place, message_there, may_begin, may_tell, may_deliver, may_drop, may_down, may_up, may_retire, given_of}
 
@@ -34,7 +34,7 @@ module _ (t : Table) (a : Step) (w : Well t) where
       let m = may_begin t a e in
       let k = site_index_lem t a.site m.site in
       let p = free_place_lem t m.place in
-      let i = given_of (issue_for t a) m.stamp in
+      let i = given_of t a m.stamp in
       rw i.2
       (well (begun_sound t (a.site - 1) (free_place t) w.shaped w.sound k.0 p.0 p.1 a.site a.clock a.base a.update a.stamps a.values i.0 i.1 k.1 m.sets m.bases m.values i.2))
 

@@ -1,10 +1,19 @@
 -- What a step gives back: document 01's number, the two results, how many requests it accepted and rejected at its site.
-use Rattle.std.specs.Prelude.{ℕ, List, ℤ}
-use Rattle.plans.specs.Answers.{refusal}
-use Rattle.plans.specs.declared.answer.Answer.{Answer}
+use Rattle.std.specs.Prelude.{ℕ, List, ℤ, Result}
+use Rattle.plans.specs.Answers.{Answer, refusal, answer_from}
+use Rattle.plans.specs.declared.answer.Results.{Results}
+use Rattle.refusals.specs.declared.Refusal.{Refusal}
 use Rattle.table.specs.declared.data.Table.{Table}
 use Rattle.walk.specs.Walking.{Said, accepts, rejects}
-use Rattle.steps.specs.declared.answer.Stepped.{Stepped}
+
+-- an answer, and the table after the step
+pub record Stepped : Type 0 where
+  pub answer : Answer
+  pub table : Table
+
+-- those that the code leaves
+abbrev pub stepped_from : Result Results Refusal → Table → Stepped
+stepped_from r t = record { answer = answer_from r; table = t }
 
 -- a step carried out: the table after it, the two results, and what its site said, in the order in which it fell
 pub record Done : Type 0 where

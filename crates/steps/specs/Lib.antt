@@ -3,4 +3,3 @@ pub mod Answers
 pub mod Numbers
 pub mod Steps
 pub mod Night
-pub mod Opened

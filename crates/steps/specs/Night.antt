@@ -1,19 +1,20 @@
 -- Document 01, "Step records and the bench program": a night of records, and the part of it that one buffer holds.
-use Rattle.std.specs.Prelude.{ℕ, zero, suc, ◌+◌, ◌-◌, Bool, true, ◌||◌, cond, ◌≡◌, List, [], ◌∷◌, ◌++◌, eqb, leb, ltb, length, drop}
+use Rattle.std.specs.Prelude.{ℕ, zero, suc, ◌+◌, ◌-◌, Bool, true, ◌||◌, cond, ◌≡◌, List, [], ◌∷◌, ◌++◌, eqb, leb, ltb, length, drop, Result, Ok, Err}
 use Rattle.kit.specs.Lists.{put}
 use Rattle.lines.specs.Lines.{line_of}
-use Rattle.plans.specs.Answers.{refusal}
-use Rattle.plans.specs.declared.answer.Answer.{Answer}
+use Rattle.lines.specs.declared.Told.{Told}
+use Rattle.plans.specs.Answers.{Answer, refusal}
+use Rattle.refusals.specs.Numbers.{number_of}
+use Rattle.refusals.specs.declared.Refusal.{Refusal}
 use Rattle.record.specs.Records.{is_cut, record_of}
-use Rattle.record.specs.declared.Record.{Record}
+use Rattle.record.specs.Records.{Record}
 use Rattle.record.specs.declared.Step.{Step}
 use Rattle.table.specs.Fresh.{fresh_for}
 use Rattle.table.specs.Sound.{sound_table}
 use Rattle.table.specs.declared.data.Table.{Table}
-use Rattle.steps.specs.Answers.{refused_as}
+use Rattle.steps.specs.Answers.{Stepped, refused_as}
 use Rattle.steps.specs.Steps.{advanced, stepped}
-use Rattle.steps.specs.declared.answer.Stepped.{Stepped}
-use Rattle.steps.specs.declared.run.Ran.{Ran}
+use Rattle.steps.specs.declared.run.Ran as code
 
 -- ---- records
 
@@ -49,6 +50,10 @@ answered_on = answered_by advanced
 -- "It prints a line for each: record number from 1, number given back, the two results, accepted, rejected."
 abbrev pub line_for : ℕ → Answer → List ℕ
 line_for nth w = line_of nth w.number w.first w.second w.accepted w.rejected
+
+-- what it tells, as the code keeps it
+abbrev pub told_of : Answer → Told
+told_of w = record { number = w.number; first = w.first; second = w.second; accepted = w.accepted; rejected = w.rejected }
 
 -- ---- the whole night: from all bytes of the input to all bytes of the output
 
@@ -105,6 +110,22 @@ abbrev pub part_from : Table → ℕ → List ℕ → ℕ → Part
 part_from t nth s room = part_of t nth (parted s).records room
 
 -- ---- `run`: "1: table not sound", with zeros beside it and the output as it came, else that part
+
+-- document 01's number, how many bytes of the input were taken and how many of the output written, the number of the next record, the table
+pub record Ran : Type 0 where
+  pub number : ℕ
+  pub taken : ℕ
+  pub written : ℕ
+  pub next : ℕ
+  pub table : Table
+
+-- those that the code leaves
+abbrev pub ran_of : code.Ran → Table → Ran
+ran_of r t = record { number = 0; taken = r.taken; written = r.written; next = r.next; table = t }
+
+abbrev pub ran_from : Result code.Ran Refusal → Table → Ran
+ran_from (Ok r) t = ran_of r t
+ran_from (Err e) t = record { number = number_of e; taken = 0; written = 0; next = 0; table = t }
 
 abbrev pub ran_as : Part → Ran
 ran_as p = record { number = 0; taken = p.taken; written = length p.lines; next = p.next; table = p.table }

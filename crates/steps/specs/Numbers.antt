@@ -1,5 +1,5 @@
 -- Document 01, "Numbers given back": the smallest number that applies to a step, 0 where none does. From a sound table, a code from 1 to 8.
-use Rattle.std.specs.Prelude.{ℕ, ◌-◌, Bool, not, ◌&&◌, ◌||◌, cond, eqb, leb}
+use Rattle.std.specs.Prelude.{ℕ, ◌-◌, Bool, true, false, not, ◌&&◌, ◌||◌, cond, eqb, leb}
 use Rattle.kit.specs.Range.{first}
 use Rattle.plans.specs.Pieces.{no_such_digit, no_message_there, held_back}
 use Rattle.record.specs.declared.Step.{Step}
@@ -86,6 +86,11 @@ down_number t a = cond (no_such_site t a.site) 3 (cond (is_down t a.site) 4 0)
 -- up: 3, 15
 unfoldable pub up_number : Table → Step → ℕ
 up_number t a = cond (no_such_site t a.site) 3 (cond (not (is_down t a.site)) 15 0)
+
+-- both: a site is put down, or up
+abbrev pub put_number : Bool → Table → Step → ℕ
+put_number true t a = up_number t a
+put_number false t a = down_number t a
 
 -- retire: 10, 14
 unfoldable pub retire_number : Table → Step → ℕ

@@ -1,10 +1,11 @@
 -- Document 01, "Steps": what each step makes of a sound table.
-use Rattle.std.specs.Prelude.{ℕ, ◌-◌, Bool, true, false, cond, [], eqb, ℤ, pos, get_or}
+use Rattle.std.specs.Prelude.{Result, ℕ, ◌-◌, Bool, true, false, cond, [], eqb, ℤ, pos, get_or}
 use Rattle.kit.specs.Lists.{changed}
 use Rattle.plans.specs.Changes.{stored, message_from, forgotten}
 use Rattle.record.specs.declared.Step.{Step}
 use Rattle.stamps.specs.Issue.{issued, issue_stamp, issue_last}
-use Rattle.stamps.specs.declared.Issue.{Issue}
+use Rattle.refusals.specs.declared.Refusal.{Refusal}
+use Rattle.stamps.specs.declared.Given.{Given}
 use Rattle.table.specs.Fresh.{blank_message}
 use Rattle.table.specs.Places.{site_at, message_at, with_site, with_sites, with_request, with_message}
 use Rattle.table.specs.Sound.{sound_table}
@@ -16,7 +17,7 @@ use Rattle.walk.specs.Hearing.{taken_up, received}
 use Rattle.walk.specs.Walking.{Out}
 use Rattle.steps.specs.Answers.{Done, stepped_as, refused_as}
 use Rattle.steps.specs.Numbers.{free_place, free_message, place_of, begin_number, tell_number, deliver_number, drop_number, down_number, up_number, retire_number, read_number}
-use Rattle.steps.specs.declared.answer.Stepped.{Stepped}
+use Rattle.steps.specs.Answers.{Stepped}
 
 -- what a site did, in the table: site k of t is now as `out` left it
 abbrev pub done_at : ℕ → ℤ → ℕ → Out → Table → Done
@@ -29,7 +30,7 @@ done_quietly first second t = record { table = t; first = first; second = second
 -- ---- 1 begin
 
 -- the stamp that the beginning site issues
-abbrev pub issue_for : Table → Step → Issue
+abbrev pub issue_for : Table → Step → Result Given Refusal
 issue_for t a = issued a.site a.clock (site_at t (a.site - 1)).last a.base a.stamps
 
 -- "Begin stores the request in the lowest free place": the table with the stamp issued and the request stored

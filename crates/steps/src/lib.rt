@@ -1,9 +1,7 @@
-// The eight steps on the whole table: document 01, "Steps" and "Numbers given back". The table is taken apart into rows, each step changes the
-// few that it is about where they stand, and the table is put together again.
+// The eight steps on a table that is lent: document 01, "Steps" and "Numbers given back".
 #![tactic(auto)]
 
 mod acting;
-pub mod answer;
 mod answering;
 pub mod run;
 pub mod step;

@@ -8,7 +8,7 @@ use lib.ListN.{length, take, drop, length-append}
 use lib.Seq.{length-take-le, take-append_seam}
 use Rattle.sitefile.specs.Entries.{file_of}
 use Rattle.sitefile.specs.Write.{file_written, buffer_after}
-use Rattle.sitefile.specs.declared.Written.{Written}
+use Rattle.sitefile.specs.Write.{Written}
 use Rattle.sitefile.proofs.RoundTrips.{file_length}
 use Rattle.table.specs.Places.{site_at}
 use Rattle.table.specs.Sound.{sound_table}

@@ -1,6 +1,6 @@
 -- A blank site is sound beside any own marks: of a site behind the last nothing else is asked.
-use mathlib.Core.Path.{◌≡◌, sym, ◌∙◌}
-use mathlib.Core.Bool.{Bool, true, not, ◌&&◌}
+use mathlib.Core.Path.{◌≡◌, refl, sym, ◌∙◌}
+use mathlib.Core.Bool.{Bool, true, false, not, ◌&&◌}
 use mathlib.Core.List.{List}
 use Prim.Native.Nat.{ℕ, ◌≤◌, ◌<◌}
 use native.Mathlib.Omega.{arith}
@@ -20,12 +20,12 @@ use Rattle.vote.specs.declared.data.Site.{Site}
 use Rattle.vote.specs.declared.data.Vote.{Vote}
 use Rattle.vote.proofs.MarkKinds.{open_is, unmarked_is}
 use Rattle.table.specs.Blank.{zeros, zero_values, holds_nothing, is_blank_site}
-use Rattle.table.specs.Parts.{value_right, reading_sound, queue_end_blank, holding_sound, place_held, site_rest, site_sound}
+use Rattle.table.specs.Parts.{value_right, reading_sound, queue_end_blank, holding_sound, place_held, rest_counted, rows_of, site_rest, site_sound}
 use Rattle.table.specs.Sound.{queue_exact, times_queued}
-use Rattle.table.specs.declared.marks.Marks.{Marks}
-use Rattle.table.proofs.Marked.{row_empty}
+use Rattle.table.specs.Parts.{Marks}
+use Rattle.table.proofs.Marked.{row_empty, places_same}
 use Rattle.table.proofs.Nothing.{nothing_means, blank_holds}
-use Rattle.table.proofs.Runs.{blank_right, reading_of}
+use Rattle.table.proofs.Runs.{stamp_right, blank_right, copy_means, reading_of}
 
 none_among : (a b : List Bool) → no_voters a ≡ true → are_among a b ≡ true
 unfolding no_voters are_among
@@ -103,14 +103,27 @@ module _ (s : Site) (e : is_blank_site s ≡ true) where
     unfolding site_rest
     blank_rest = both_true reads (both_true ends (both_true queued held))
 
-module _ (n me : ℕ) (lasts : List ℕ) (marks : List Marks) (stamps : List ℕ) (s : Site) {w : ℕ} {r : Bool} (i : w ≡ n) where
-  pub unused_site : w ≤ me → r ≡ is_blank_site s → r ≡ site_sound n lasts marks stamps me s
+and_assoc : (a b d : Bool) → (a && (b && d)) ≡ ((a && b) && d)
+and_assoc true b d = refl
+and_assoc false b d = refl
+
+rest_same
+    : (n me : ℕ) (lasts stamps : List ℕ) (s : Site) (oks others : List Bool)
+    → rest_counted n lasts oks others stamps me s ≡ site_rest n lasts (rows_of oks others) stamps me s
+unfolding site_rest queue_end_blank queue_exact times_queued
+rest_same n me lasts stamps s oks others =
+    rw (places_same n me oks others stamps s)
+    (and_assoc (all 24 (λ i. stamp_right n lasts (get_or s.stamps i 0))) (all 24 (λ i. value_right (get_or s.stamps i 0) (get_or s.values i (pos 0)))) _
+    ∙ rw (copy_means n lasts s refl))
+
+module _ (n me : ℕ) (lasts : List ℕ) (stamps : List ℕ) (s : Site) {w : ℕ} {r : Bool} (i : w ≡ n) where
+  pub unused_site : (marks : List Marks) → w ≤ me → r ≡ is_blank_site s → r ≡ site_sound n lasts marks stamps me s
   unfolding site_sound
-  unused_site h e =
+  unused_site marks h e =
       let l : n ≤ me = omega arith in
       rw (le-leb n me l)
       (by_test (is_blank_site s) (λ t. rw t at e ∙ rw t (sym (blank_rest s t n me lasts marks stamps))) (λ f. e ∙ rw f))
 
-  pub used_site : me < w → r ≡ site_rest n lasts marks stamps me s → r ≡ site_sound n lasts marks stamps me s
+  pub used_site : (oks others : List Bool) → me < w → r ≡ rest_counted n lasts oks others stamps me s → r ≡ site_sound n lasts (rows_of oks others) stamps me s
   unfolding site_sound
-  used_site h e = let l : me < n = omega arith in rw (lt-leb n me l) e
+  used_site oks others h e = let l : me < n = omega arith in rw (lt-leb n me l) (e ∙ rest_same n me lasts stamps s oks others)

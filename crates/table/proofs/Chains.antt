@@ -11,9 +11,6 @@ use mir.Syntax.{w32}
 use mir.Val.{SFits, to_z, of_z}
 use Rattle.kit.specs.Range.{implies}
 use Rattle.kit.proofs.Bools.{and_refuse, and_passed}
-use Rattle.readings.specs.Readings.{in_range, is_zero}
-use Rattle.vote.specs.declared.data.Vote.{Vote}
-use Rattle.table.specs.Blank.{blank_vote}
 use Rattle.table.specs.Parts.{value_right}
 
 -- ---- `if x != y { return false; }`
@@ -73,9 +70,6 @@ pub ruleset refused = (lt_refuse, lt_passed, le_refuse, le_passed, ne_refuse, ne
 pub asked : {t g b : Bool} → t ≡ true → g ≡ b → g ≡ implies t b
 asked h e = rw h e
 
-pub unasked : {t : Bool} (b : Bool) → t ≡ false → true ≡ implies t b
-unasked b h = rw h
-
 -- ---- `if x == y { return g; } true`
 
 pub eq_asked : {x y : ℕ} {g b : Bool} → x ≡ y → g ≡ b → g ≡ implies (eqb x y) b
@@ -114,23 +108,11 @@ pub ruleset choices = (eq_then, eq_else, not_then, not_else)
 
 -- ---- what a call was given goes into what it means
 
-pub implies_both : {r t u a b : Bool} → r ≡ implies t u → t ≡ a → u ≡ b → r ≡ implies a b
-implies_both e f g = rw (← f, ← g) e
-
 -- a signed number, of which the code knows that it fits
 module _ {r : Bool} {v : ℤ} where
-  pub zero_means : r ≡ is_zero (to_z w32 (of_z w32 v)) → SFits w32 v → r ≡ is_zero v
-  zero_means e f = rw (to_z-of_z f) at e
-
   pub value_means : (stamp : ℕ) → r ≡ value_right stamp (to_z w32 (of_z w32 v)) → SFits w32 v → r ≡ value_right stamp v
   value_means stamp e f = rw (to_z-of_z f) at e
-
-  pub range_means : r ≡ in_range (to_z w32 (of_z w32 v)) → SFits w32 v → r ≡ in_range v
-  range_means e f = rw (to_z-of_z f) at e
 
 -- the same of an element of an array
 pub sized : {v : ℤ} → mag v < 2147483648 → SFits w32 v
 sized h = record { sfits = h }
-
-pub vote_means : {r : Bool} {v w : Vote} → r ≡ blank_vote v → v ≡ w → r ≡ blank_vote w
-vote_means e f = rw (← f) e

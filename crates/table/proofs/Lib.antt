@@ -1,16 +1,17 @@
 -- What the proofs of `table` cite.
-mod Fills
 mod Chains
+mod Blanks
+mod Queueing
 pub mod Places
 pub mod Nothing
 pub mod Queues
 pub mod Backing
 mod Marked
 pub mod Meaning
-mod Putting
 mod Runs
 mod RowSets
 pub mod Same
 mod BlankSites
+mod Messages
 mod Whole
 pub mod FreshSound

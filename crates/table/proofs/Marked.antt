@@ -1,30 +1,32 @@
 -- What the code of soundness gathers once: the own marks of all places, kept as known voters are, and how often each place stands in a queue.
-use mathlib.Core.Path.{◌≡◌, refl, sym, ◌∙◌}
-use mathlib.Core.Bool.{Bool, true, false, not, ◌&&◌}
+use mathlib.Core.Path.{◌≡◌, refl, sym, ap, ◌∙◌}
+use mathlib.Core.Bool.{Bool, true, false, not, ◌&&◌, cond}
 use mathlib.Core.List.{List, []}
-use Prim.Native.Nat.{ℕ, suc, ◌+◌, ◌/◌, ◌%◌, ◌≤◌, ◌<◌}
+use Prim.Native.Nat.{ℕ, zero, suc, ◌+◌, ◌/◌, ◌%◌, ◌≤◌, ◌<◌}
 use native.Mathlib.Numerals.{add-one}
 use native.Mathlib.Omega.{arith}
-use borrow.Author.Tests.{eq-eqb, ne_eqb, not-true, not-false}
-use lib.Dec.{eqb}
+use borrow.Author.Tests.{eq-eqb, ne_eqb}
+use lib.Dec.{eqb, leb}
+use Rattle.majority.specs.Majority.{majority, blocking}
+use Rattle.vote.specs.declared.data.Verdict.{Verdict}
+use Rattle.vote.specs.declared.data.Verdict.TheVariants as verdict
 use lib.ListN.{length, get_or, set, replicate, length-set, length-replicate, get_or-replicate}
 use lib.Seq.{ext_get_or, get_or-set_same, get_or-set_other}
 use Rattle.kit.specs.Lists.{listed}
 use Rattle.kit.specs.Range.{all, any, implies, number}
-use Rattle.kit.proofs.Bools.{clash, and_left, and_right, by_test, by_eq, by_lt}
+use Rattle.kit.proofs.Bools.{by_test, by_eq, by_lt}
 use Rattle.kit.proofs.Listings.{listed_at, listed_same, length_listed}
-use Rattle.kit.proofs.Ranges.{all_at, all_of, all_same, any_at, any_one, number_le, number_mono, number_suc, number_none}
-use Rattle.vote.specs.Data.{is_ok_vote, is_other, vote_at}
+use Rattle.kit.proofs.Ranges.{all_same, any_at, any_one, number_le, number_mono, number_suc, number_none}
+use Rattle.vote.specs.Data.{is_ok_vote, is_other, is_open, is_unmarked, is_deferred, vote_at}
 use Rattle.vote.specs.Queue.{queued_at}
-use Rattle.vote.specs.Voters.{knows, has_voter, voters_of, are_among, no_voters, voters_in, voters_known}
+use Rattle.vote.specs.Voters.{knows, has_voter, voters_of, voters_for, are_among, no_voters, voters_in, voters_known}
+use Rattle.vote.specs.declared.data.Mark.{Mark}
 use Rattle.vote.specs.declared.data.Site.{Site}
-use Rattle.vote.specs.declared.data.Vote.{Vote}
+use Rattle.table.specs.Places.{no_site}
 use Rattle.vote.proofs.KnownVoters.{unknown_voter, listed_known}
 use Rattle.vote.proofs.Rows.{row_out, row_known, row_number}
 use Rattle.table.specs.Blank.{blank_vote}
-use Rattle.table.specs.Parts.{marks_at, marks_of, marks_in, holding_sound, place_held}
-use Rattle.table.specs.declared.marks.Ballot.{Ballot}
-use Rattle.table.specs.declared.marks.Marks.{Marks}
+use Rattle.table.specs.Parts.{Ballot, rows_at, rows_of, ballots_of, marks_at, marks_of, marks_in, backed_by, holding_sound, place_held, place_counted}
 
 -- ---- a row and its count
 
@@ -46,11 +48,6 @@ row_empty row =
     rw (t, ne_eqb (number 7 (has_voter row)) 0 (λ z. omega arith)))
     (λ f. rw (f, number_none 7 (has_voter row) (λ u h. any_at (has_voter row) 7 u f h))))
 
-module _ (known other : List Bool) (p : ℕ) {x y : ℕ} (e : x ≡ voters_known known p) (f : y ≡ voters_known other p) where
-  pub nobody_means : {r : Bool} → r ≡ (eqb x 0 && eqb y 0) → r ≡ (no_voters (voters_of known p) && no_voters (voters_of other p))
-  unfolding voters_known
-  nobody_means g = rw (row_empty (voters_of known p), row_empty (voters_of other p), ← e, ← f) g
-
 -- a known voter is in the row of its place
 pub known_row : {b : Bool} (known : List Bool) (p u : ℕ) → b ≡ knows known p u → b ≡ has_voter (voters_of known p) u
 known_row known p u e =
@@ -58,89 +55,93 @@ known_row known p u e =
 
 -- ---- the own marks of place p, and of all places
 
-abbrev pub rows_at : List Bool → List Bool → ℕ → Marks
-rows_at oks others p = record { oks = voters_of oks p; others = voters_of others p }
-
-abbrev pub rows_of : List Bool → List Bool → List Marks
-rows_of oks others = listed 16 (rows_at oks others)
-
 pub rows_in : (oks others : List Bool) (p : ℕ) → p < 16 → marks_in (rows_of oks others) p ≡ rows_at oks others p
 rows_in oks others p h = listed_at 16 p (rows_at oks others) (record { oks = []; others = [] }) h
 
 -- gathered from what each site has said
-pub rows_said
-    : (ballots : List Ballot) {oks others : List Bool}
-    → oks ≡ listed 112 (λ i. is_ok_vote (vote_at (get_or ballots (i % 7) (record { votes = [] })).votes (i / 7)).mark)
-    → others ≡ listed 112 (λ i. is_other (vote_at (get_or ballots (i % 7) (record { votes = [] })).votes (i / 7)).mark)
-    → rows_of oks others ≡ marks_of ballots
-unfolding marks_of marks_at
-rows_said ballots {oks} {others} e f =
-    listed_same 16 (rows_at oks others) (marks_at ballots)
-    (λ p h. rw (
-      e,
-      f,
-      listed_known (λ q u. is_ok_vote (vote_at (get_or ballots u (record { votes = [] })).votes q).mark) p h,
-      listed_known (λ q u. is_other (vote_at (get_or ballots u (record { votes = [] })).votes q).mark) p h,
-    ))
+module _ (sites : List Site) where
+  said_row : (f : Mark → Bool) (p : ℕ) → p < 16
+      → voters_of (listed 112 (λ i. f (vote_at (get_or sites (i % 7) no_site).votes (i / 7)).mark)) p
+      ≡ voters_for (λ u. f (vote_at (get_or (ballots_of sites) u (record { votes = [] })).votes p).mark)
+  unfolding ballots_of voters_for
+  said_row f p h =
+      listed_known (λ q u. f (vote_at (get_or sites u no_site).votes q).mark) p h
+      ∙ listed_same 7 (λ u. f (vote_at (get_or sites u no_site).votes p).mark) (λ u. f (vote_at (get_or {A = Ballot} (listed 7 (λ k. record { votes = (get_or sites k no_site).votes })) u (record { votes = [] })).votes p).mark)
+      (λ u l. ap (λ (b : Ballot). f (vote_at b.votes p).mark) (sym (listed_at {A = Ballot} 7 u (λ k. record { votes = (get_or sites k no_site).votes }) (record { votes = [] }) l)))
+
+  pub rows_said
+      : {oks others : List Bool}
+      → oks ≡ listed 112 (λ i. is_ok_vote (vote_at (get_or sites (i % 7) no_site).votes (i / 7)).mark)
+      → others ≡ listed 112 (λ i. is_other (vote_at (get_or sites (i % 7) no_site).votes (i / 7)).mark)
+      → rows_of oks others ≡ marks_of (ballots_of sites)
+  unfolding marks_of marks_at
+  rows_said {oks} {others} e f =
+      listed_same 16 (rows_at oks others) (marks_at (ballots_of sites)) (λ p h. rw (e, f, said_row is_ok_vote p h, said_row is_other p h))
+
+-- a verdict, as the code counts the own marks
+module _ (n : ℕ) (oks others : List Bool) (p : ℕ) {v : Verdict} {x y : ℕ} where
+  pub accepted : v ≡ verdict.Accepted → x ≡ majority n → y ≡ voters_known oks p → leb x y ≡ backed_by n (rows_at oks others p) v
+  unfolding voters_known
+  accepted e f g = rw (e, f, g)
+
+  pub rejected : v ≡ verdict.Rejected → x ≡ blocking n → y ≡ voters_known others p → leb x y ≡ backed_by n (rows_at oks others p) v
+  unfolding voters_known
+  rejected e f g = rw (e, f, g)
 
 -- ---- what a site holds, beside the own marks of all places
 
--- a test that is known to hold
-pub given : {a g b : Bool} → a ≡ true → g ≡ b → g ≡ (a && b)
-given h e = rw h e
+regroup : (a b c d e f g : Bool) → (a && (b && (c && (d && (e && (f && g)))))) ≡ ((a && (b && (c && (d && (e && f))))) && g)
+regroup true true true true true true g = refl
+regroup true true true true true false g = refl
+regroup true true true true false f g = refl
+regroup true true true false e f g = refl
+regroup true true false d e f g = refl
+regroup true false c d e f g = refl
+regroup false b c d e f g = refl
 
--- what a call said, where it did not refuse
-pub passed : {r a : Bool} → r ≡ a → not r ≡ false → a ≡ true
-passed {r} e f = sym e ∙ not-false r f
-
--- place by place, as the code asks
-abbrev pub held_at : ℕ → ℕ → List Bool → List Bool → List ℕ → List Vote → List Bool → List Bool → ℕ → Bool
-held_at n me agreed opposed stamps votes oks others p =
-    holding_sound n me (rows_at agreed opposed p) (vote_at votes p) (voters_of oks p) (voters_of others p)
-    && implies (eqb (get_or stamps p 0) 0) (blank_vote (vote_at votes p) && (no_voters (voters_of oks p) && no_voters (voters_of others p)))
-
--- the known voters of place p among the own marks, where those of all places are
-pub among_place : (a b : List Bool) (p : ℕ) → all 16 (λ q. are_among (voters_of a q) (voters_of b q)) ≡ true → p < 16 → are_among (voters_of a p) (voters_of b p) ≡ true
-among_place a b p e h = all_at (λ q. are_among (voters_of a q) (voters_of b q)) 16 p e h
-
-both_among : (a b d g : Bool) → ((a && (b && d)) && g) ≡ true → (a ≡ true) × (b ≡ true)
-both_among a b d g t = let held = and_left (a && (b && d)) g t in (and_left a (b && d) held, and_left b d (and_right a (b && d) held))
+all_and : (p q : ℕ → Bool) (n : ℕ) → (all n p && all n q) ≡ all n (λ i. p i && q i)
+unfolding all
+all_and p q zero = refl
+all_and p q (suc n) = turned (all n p) (p n) (all n q) (q n) ∙ rw (all_and p q n)
+  where
+    turned : (a b c d : Bool) → ((a && b) && (c && d)) ≡ ((a && c) && (b && d))
+    turned true true c d = refl
+    turned true false true d = refl
+    turned true false false d = refl
+    turned false b c d = refl
 
 module _ (n me : ℕ) (agreed opposed : List Bool) (stamps : List ℕ) (s : Site) where
-  abbrev held_by : ℕ → Bool
-  held_by p = held_at n me agreed opposed stamps s.votes s.oks s.others p
+  place_same
+      : (p : ℕ) → p < 16
+      → (are_among (voters_of s.oks p) (voters_of agreed p) && (are_among (voters_of s.others p) (voters_of opposed p) && place_counted n me agreed opposed stamps s p))
+      ≡ place_held n me (rows_of agreed opposed) stamps s p
+  unfolding place_counted place_held holding_sound voters_known
+  place_same p h =
+      rw (
+        rows_in agreed opposed p h,
+        row_empty (voters_of s.oks p),
+        row_empty (voters_of s.others p),
+        ← known_row s.oks p me refl,
+        ← known_row s.others p me refl,
+      )
+      (regroup (are_among (voters_of s.oks p) (voters_of agreed p)) (are_among (voters_of s.others p) (voters_of opposed p))
+      (implies (is_ok_vote (vote_at s.votes p).mark) (knows s.oks p me)) (implies (is_other (vote_at s.votes p).mark) (knows s.others p me))
+      (backed_by n (rows_at agreed opposed p) (vote_at s.votes p).verdict)
+      (cond (is_open (vote_at s.votes p).verdict)
+      (not (leb (majority n) (voters_in (voters_of s.oks p)))
+      && (not (leb (blocking n) (voters_in (voters_of s.others p)))
+      && implies (is_unmarked (vote_at s.votes p).mark) (eqb (voters_in (voters_of s.oks p)) 0 && eqb (voters_in (voters_of s.others p)) 0)))
+      (not (is_deferred (vote_at s.votes p).mark)))
+      (implies (eqb (get_or stamps p 0) 0) (blank_vote (vote_at s.votes p) && (eqb (voters_in (voters_of s.oks p)) 0 && eqb (voters_in (voters_of s.others p)) 0))))
 
-  held_same : (p : ℕ) → p < 16 → held_by p ≡ place_held n me (rows_of agreed opposed) stamps s p
-  unfolding place_held
-  held_same p h = rw (rows_in agreed opposed p h)
-
-  pub held_all : {r : Bool} → r ≡ all 16 held_by → r ≡ all 16 (place_held n me (rows_of agreed opposed) stamps s)
-  held_all e = e ∙ all_same held_by (place_held n me (rows_of agreed opposed) stamps s) 16 held_same
-
-  among_held
-      : (p : ℕ) → p < 16 → place_held n me (rows_of agreed opposed) stamps s p ≡ true
-      → (are_among (voters_of s.oks p) (voters_of agreed p) ≡ true) × (are_among (voters_of s.others p) (voters_of opposed p) ≡ true)
-  unfolding holding_sound
-  among_held p h e = both_among _ _ _ _ (held_same p h ∙ e)
-
-  -- a known voter without that mark of its own
-  strange
-      : (a : ℕ → Bool) → ((p : ℕ) → p < 16 → place_held n me (rows_of agreed opposed) stamps s p ≡ true → a p ≡ true) → {r : Bool}
-      → r ≡ all 16 a → not r ≡ true → false ≡ all 16 (place_held n me (rows_of agreed opposed) stamps s)
-  strange a f {r} e k =
-      by_test (all 16 (place_held n me (rows_of agreed opposed) stamps s))
-      (λ t. clash (all_of 16 a (λ p h. f p h (all_at (place_held n me (rows_of agreed opposed) stamps s) 16 p t h))) (sym e ∙ not-true r k))
-      (λ z. sym z)
-
-  pub strange_ok
-      : {r : Bool} → r ≡ all 16 (λ p. are_among (voters_of s.oks p) (voters_of agreed p)) → not r ≡ true
-      → false ≡ all 16 (place_held n me (rows_of agreed opposed) stamps s)
-  strange_ok e k = strange (λ p. are_among (voters_of s.oks p) (voters_of agreed p)) (λ p h t. (among_held p h t).0) e k
-
-  pub strange_other
-      : {r : Bool} → r ≡ all 16 (λ p. are_among (voters_of s.others p) (voters_of opposed p)) → not r ≡ true
-      → false ≡ all 16 (place_held n me (rows_of agreed opposed) stamps s)
-  strange_other e k = strange (λ p. are_among (voters_of s.others p) (voters_of opposed p)) (λ p h t. (among_held p h t).1) e k
+  pub places_same
+      : (all 16 (λ p. are_among (voters_of s.oks p) (voters_of agreed p))
+      && (all 16 (λ p. are_among (voters_of s.others p) (voters_of opposed p)) && all 16 (place_counted n me agreed opposed stamps s)))
+      ≡ all 16 (place_held n me (rows_of agreed opposed) stamps s)
+  places_same =
+      rw (all_and (λ p. are_among (voters_of s.others p) (voters_of opposed p)) (place_counted n me agreed opposed stamps s) 16)
+      (all_and (λ p. are_among (voters_of s.oks p) (voters_of agreed p)) (λ p. are_among (voters_of s.others p) (voters_of opposed p) && place_counted n me agreed opposed stamps s p) 16
+      ∙ all_same _ (place_held n me (rows_of agreed opposed) stamps s) 16 place_same)
 
 -- ---- how often each place stands among the first i of a queue
 

@@ -2,8 +2,7 @@
 use mathlib.Core.Path.{◌≡◌, refl, sym, ◌∙◌}
 use mathlib.Core.Bool.{Bool, true, false}
 use mathlib.Core.List.{List}
-use Prim.Native.Nat.{ℕ, ◌+◌, ◌*◌, ◌^◌, ◌≤◌, ◌<◌}
-use native.Mathlib.Nat.{pow-suc}
+use Prim.Native.Nat.{ℕ, ◌+◌, ◌*◌, ◌%◌, ◌^◌, ◌≤◌, ◌<◌}
 use native.Mathlib.Numerals.{add-one}
 use native.Mathlib.Omega.{arith}
 use lib.ListN.{get_or}
@@ -17,52 +16,47 @@ use Rattle.kit.proofs.Ranges.{all_at, all_of}
 use Rattle.sets.specs.Sets.{set_of, inside}
 use Rattle.sets.proofs.Laws.{set_of_lt, member_set_of, member_set_of_above}
 use Rattle.sets.proofs.Members.{inside_at, inside_of}
+use Rattle.vote.proofs.Rows.{row_in}
 use Rattle.vote.specs.Voters.{has_voter, voters_of, are_among}
 use Rattle.table.specs.Parts.{row_set, row_sets}
 
--- ---- a weight that counts or not
+-- ---- the digits of the first u voters, as the code adds them: d is the next voter as a number
 
-pub weight_in : {test : Bool} (weight : ℕ) → test ≡ true → weight ≡ one test * weight
-weight_in weight h = rw h (omega arith)
+below_all : (row : List Bool) (u : ℕ) → u < 7 → set_of u (has_voter row) < 64
+below_all row u h = let l : u ≤ 6 = omega arith in let g : 2 ^ u ≤ 2 ^ 6 = pow_mono l in let s : set_of u (has_voter row) < 2 ^ u = set_of_lt u (has_voter row) in omega arith
 
-pub weight_out : {test : Bool} (weight : ℕ) → test ≡ false → 0 ≡ one test * weight
-weight_out weight h = rw h (omega arith)
+digit : (b : Bool) {w : ℕ} → w ≤ 64 → one b * w % 4294967296 ≡ one b * w
+digit true h = omega arith
+digit false h = omega arith
 
--- ---- the digits of the first u voters, and the weight of the next
+digit_below : (b : Bool) {w : ℕ} → w ≤ 64 → one b * w ≤ 64
+digit_below true h = omega arith
+digit_below false h = omega arith
 
-pub record Summed (f : ℕ → Bool) (u set weight : ℕ) : Type 0 where
-  pub in_reach : u ≤ 7
-  pub so_far : set ≡ set_of u f
-  pub power : weight ≡ 2 ^ u
+module _ (row : List Bool) (u : ℕ) (h : u < 7) {d : ℕ} (e : d ≡ one (get_or row u false)) where
+  light : 2 ^ u ≤ 64
+  light = let l : u ≤ 6 = omega arith in pow_mono l
 
-module _ {f : ℕ → Bool} where
-  pub summed_none : Summed f 0 0 1
+  weight : d * 2 ^ u % 4294967296 ≡ one (has_voter row u) * 2 ^ u
+  weight = rw (e, row_in row u (omega arith)) (digit (has_voter row u) light)
+
+  pub one_more_row : {set : ℕ} → set ≡ set_of u (has_voter row) → set + d * 2 ^ u % 4294967296 ≡ set_of (u + 1) (has_voter row)
   unfolding set_of
-  summed_none = record { in_reach = omega arith; so_far = refl; power = refl }
+  one_more_row f = rw (add-one u, weight, f)
 
-  pub summed_more : {u set weight d : ℕ} {r : Bool} → Summed f u set weight → u < 7 → d ≡ one r * weight → r ≡ f u → Summed f (u + 1) (set + d) (2 * weight)
-  unfolding set_of
-  summed_more {u} {set} {weight} s h e g = record {
-    in_reach = omega arith;
-    so_far = rw (add-one u, e, g, s.so_far, s.power);
-    power = rw (add-one u, pow-suc, s.power) (omega arith);
-  }
+  pub row_fits : {set : ℕ} → set ≡ set_of u (has_voter row) → Fits w32 (set + d * 2 ^ u % 4294967296)
+  row_fits {set} f =
+      let b : set_of u (has_voter row) < 64 = below_all row u h in
+      let w : one (has_voter row u) * 2 ^ u ≤ 64 = digit_below (has_voter row u) light in
+      record { fits = rw (weight, f) (omega arith) }
 
-  pub summed_over : {u set weight : ℕ} → Summed f u set weight → 7 ≤ u → set ≡ set_of 7 f
-  summed_over {u} s h = let e : u ≡ 7 = omega (arith, s.in_reach) in rw (← e) s.so_far
+pub no_row_set : (row : List Bool) → 0 ≡ set_of 0 (has_voter row)
+unfolding set_of
+no_row_set row = refl
 
-  -- what is summed lies below the weight, which is at most 64 before the last
-  pub summed_below : {u set weight : ℕ} → Summed f u set weight → set < weight
-  summed_below {u} s = rw (s.so_far, s.power) (set_of_lt u f)
-
-  pub summed_light : {u set weight : ℕ} → Summed f u set weight → u < 7 → weight ≤ 64
-  summed_light {u} s h = let l : u ≤ 6 = omega arith in let g : 2 ^ u ≤ 2 ^ 6 = pow_mono l in rw s.power g
-
-  pub set_fits : {u set weight d : ℕ} → Summed f u set weight → u < 7 → d ≤ weight → Fits w32 (set + d)
-  set_fits s h l = let b = summed_below s in let w = summed_light s h in record { fits = omega arith }
-
-  pub weight_fits : {u set weight : ℕ} → Summed f u set weight → u < 7 → Fits w32 (2 * weight)
-  weight_fits s h = let w = summed_light s h in record { fits = omega arith }
+pub row_is : {set : ℕ} (row : List Bool) (u : ℕ) → u ≤ 7 → 7 ≤ u → set ≡ set_of u (has_voter row) → set ≡ row_set row
+unfolding row_set
+row_is row u h l f = let e : u ≡ 7 = omega arith in rw e at f
 
 -- ---- one row among another
 

@@ -1,9 +1,9 @@
 -- Stamps and values asked one behind the other: a stamp that stands behind the same stamp needs no test, tests that are all made, and the items
 -- of a set.
-use mathlib.Core.Path.{◌≡◌, refl, sym, ◌∙◌}
-use mathlib.Core.Bool.{Bool, true, false, not, ◌&&◌, and-true}
+use mathlib.Core.Path.{◌≡◌, refl, sym, ap, ◌∙◌}
+use mathlib.Core.Bool.{Bool, true, false, not, ◌&&◌, ◌||◌, and-true}
 use mathlib.Core.List.{List}
-use Prim.Native.Nat.{ℕ, ◌+◌, ◌-◌, ◌^◌, ◌≤◌, ◌<◌}
+use Prim.Native.Nat.{ℕ, zero, suc, ◌+◌, ◌-◌, ◌^◌, ◌≤◌, ◌<◌}
 use native.Mathlib.Numerals.{add-one}
 use native.Mathlib.Omega.{arith}
 use borrow.Author.Tests.{eq-eqb, ne_eqb, le-leb, not-true, not-false}
@@ -11,36 +11,63 @@ use lib.Bits.{bit_and}
 use lib.Count.{count_trailing_zeros}
 use lib.Dec.{eqb}
 use lib.IntN.{ℤ, pos}
-use lib.ListN.{get_or}
+use lib.ListN.{length, get_or, take}
 use Rattle.kit.specs.Range.{any, all, implies}
+use Rattle.std.specs.List.{list_any}
+use Rattle.std.specs.Ordering.{int_eq}
+use Rattle.std.proofs.lemmas.List.{length-take, get_or-take}
+use Rattle.kit.proofs.Iterated.{any_elements}
 use Rattle.kit.proofs.Bools.{and_left, and_right, both_true, by_test, by_eq, same_test}
-use Rattle.kit.proofs.Ranges.{any_at, all_suc, all_at, all_of, all_miss}
+use Rattle.kit.proofs.Loops.{Held, held_more}
+use Rattle.kit.proofs.Ranges.{any_at, any_same, all_suc, all_at, all_of, all_miss}
 use Rattle.readings.specs.Readings.{in_range, is_zero}
 use Rattle.readings.proofs.Orders.{zero_is}
 use Rattle.sets.specs.Sets.{member}
 use Rattle.sets.proofs.Lowest.{Sought, sought_start, sought_item, sought_less, sought_over, sought_past, sought_more, item_in}
 use Rattle.stamps.specs.Stamps.{well_formed}
 use Rattle.vote.specs.declared.data.Site.{Site}
-use Rattle.table.specs.Parts.{time_right, value_right, reading_sound}
+use Rattle.table.proofs.Blanks.{zero_test}
+use Rattle.table.specs.Parts.{stamp_new, time_right, value_right, reading_sound}
 use Rattle.table.specs.Sound.{reading_allowed}
 
--- ---- tests that are all made: `good = are_both(good, test(i));`
+-- ---- tests that are all made
 
-pub record Made (n : ℕ) (p : ℕ → Bool) (i : ℕ) (good : Bool) : Type 0 where
-  pub in_reach : i ≤ n
-  pub so_far : good ≡ all i p
-
-pub made_none : {n : ℕ} {p : ℕ → Bool} → Made n p 0 true
+pub made_none : (p : ℕ → Bool) → true ≡ all 0 p
 unfolding all
-made_none = record { in_reach = omega arith; so_far = refl }
+made_none p = refl
 
-pub made_more : {n : ℕ} {p : ℕ → Bool} {i : ℕ} {good g r : Bool} → Made n p i good → i < n → g ≡ (good && r) → r ≡ p i → Made n p (i + 1) g
-made_more {n} {p} {i} m h f e = record { in_reach = omega arith; so_far = rw (add-one i, all_suc i p, ← m.so_far, ← e) f }
+pub made_more : {good r : Bool} (p : ℕ → Bool) (i : ℕ) {n : ℕ} → n ≡ i + 1 → good ≡ all i p → r ≡ p i → (good && r) ≡ all n p
+made_more p i e f g = rw (e, add-one i, all_suc i p, f, g)
 
-pub made_over : {n : ℕ} {p : ℕ → Bool} {i : ℕ} {good : Bool} → Made n p i good → n ≤ i → good ≡ all n p
-made_over {n} {p} {i} m h = let e : i ≡ n = omega (arith, m.in_reach) in rw (← e) m.so_far
+-- ---- a stamp that is sought among those before it
 
-pub ruleset mades = (made_none, made_more, made_over, arith)
+not_any : (p : ℕ → Bool) (n : ℕ) → not (any n p) ≡ all n (λ i. not (p i))
+unfolding any all
+not_any p zero = refl
+not_any p (suc n) = de_morgan (any n p) (p n) ∙ rw (not_any p n)
+  where
+    de_morgan : (a b : Bool) → not (a || b) ≡ (not a && not b)
+    de_morgan true b = refl
+    de_morgan false b = refl
+
+pub stamp_sought
+    : {r : Bool} {x : ℕ} (stamps : List ℕ) (p : ℕ) → length stamps ≡ 16 → p < 16 → x ≡ get_or stamps p 0 → r ≡ list_any (λ y. eqb y x) (take p stamps)
+    → not r ≡ stamp_new stamps p
+unfolding stamp_new
+stamp_sought {x = x} stamps p l h e f =
+    ap not (f ∙ any_elements (λ y. eqb y x) (take p stamps) 0 (length-take p stamps ∙ omega arith)
+    ∙ any_same (λ q. eqb (get_or (take p stamps) q 0) x) (λ q. eqb (get_or stamps q 0) (get_or stamps p 0)) p (λ q k. rw (get_or-take p stamps q 0 k, e)))
+    ∙ not_any (λ q. eqb (get_or stamps q 0) (get_or stamps p 0)) p
+
+-- ---- a value beside its stamp
+
+pub value_none : {r : Bool} {stamp : ℕ} (v : ℤ) → stamp ≡ 0 → r ≡ int_eq v (pos 0) → r ≡ value_right stamp v
+unfolding value_right
+value_none {stamp = stamp} v e f = rw (eq-eqb stamp 0 e) (f ∙ zero_test v)
+
+pub value_some : {r : Bool} {stamp : ℕ} (v : ℤ) → (stamp ≡ 0 → ⊥) → r ≡ in_range v → r ≡ value_right stamp v
+unfolding value_right
+value_some {stamp = stamp} v ne f = rw (ne_eqb stamp 0 ne) f
 
 -- ---- a stamp behind one that has passed
 
@@ -50,12 +77,14 @@ passes {r} e f = sym e ∙ not-false r f
 abbrev pub stamp_right : ℕ → List ℕ → ℕ → Bool
 stamp_right n lasts stamp = well_formed n stamp && time_right lasts stamp
 
-pub same_right : (n : ℕ) (lasts : List ℕ) {stamp last : ℕ} → stamp ≡ last → stamp_right n lasts last ≡ true → true ≡ stamp_right n lasts stamp
-same_right n lasts e h = rw e (sym h)
-
 pub blank_right : (n : ℕ) (lasts : List ℕ) → stamp_right n lasts 0 ≡ true
 unfolding well_formed time_right
 blank_right n lasts = le-leb 0 (get_or lasts 0 0) (omega arith)
+
+pub stamp_more
+    : (n : ℕ) (lasts copied : List ℕ) {i stamp : ℕ} → Held 24 (λ k. stamp_right n lasts (get_or copied k 0)) i → i < 24 → stamp ≡ get_or copied i 0
+    → stamp_right n lasts stamp ≡ true → Held 24 (λ k. stamp_right n lasts (get_or copied k 0)) (i + 1) × (stamp_right n lasts stamp ≡ true)
+stamp_more n lasts copied held h e t = (held_more {r = true} held h (rw (← e) (sym t)) refl, t)
 
 -- ---- `if !g(item) { return false; }` for the items of a set, lowest first, computes `all n (λ i. implies (member s i) (g i))`
 

@@ -31,8 +31,8 @@ use Rattle.table.specs.Parts.{lasts_of, stamps_of, ballots_of, marks_at, marks_o
 use Rattle.table.specs.Places.{no_site, site_at, message_at, place_at, mark_at, verdict_at, last_of}
 use Rattle.table.specs.Sound.{request_allowed, reading_allowed, queue_exact, marks_ok, marks_other, backed, sound_table}
 use Rattle.table.specs.declared.data.Table.{Table}
-use Rattle.table.specs.declared.marks.Ballot.{Ballot}
-use Rattle.table.specs.declared.marks.Marks.{Marks}
+use Rattle.table.specs.Parts.{Ballot}
+use Rattle.table.specs.Parts.{Marks}
 use Rattle.table.proofs.Meaning.{means, meant}
 
 abbrev no_ballot : Ballot

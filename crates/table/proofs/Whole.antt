@@ -1,23 +1,20 @@
 -- The test of soundness as the code asks it, one law for each of its ways: the parts in turn, and that they are the whole.
-use mathlib.Core.Path.{◌≡◌, sym, ◌∙◌}
+use mathlib.Core.Path.{◌≡◌, ◌∙◌}
 use mathlib.Core.Bool.{Bool, true, false, not, ◌&&◌}
-use mathlib.Core.List.{List, []}
+use mathlib.Core.List.{List}
 use Prim.Native.Nat.{ℕ, ◌/◌, ◌%◌, ◌≤◌, ◌<◌}
-use borrow.Author.Tests.{not-true, not-false, eq-eqb, ne_eqb}
+use borrow.Author.Tests.{not-true, not-false}
 use lib.Dec.{leb}
 use lib.ListN.{get_or}
 use Rattle.kit.specs.Lists.{listed}
 use Rattle.kit.specs.Range.{all}
-use Rattle.kit.proofs.Listings.{listed_at}
 use Rattle.kit.proofs.Loops.{Held, all_failed, all_over}
 use Rattle.vote.specs.Data.{is_ok_vote, is_other, request_at, vote_at}
-use Rattle.table.specs.Blank.{is_blank_request}
-use Rattle.table.specs.Parts.{lasts_of, stamps_of, ballots_of, marks_of, used_sound, request_sound, site_sound, message_sound, parts_sound}
+use Rattle.table.specs.Parts.{lasts_of, stamps_of, ballots_of, rows_of, marks_of, request_sound, site_sound, message_sound, parts_sound}
 use Rattle.table.specs.Places.{no_site, no_message}
 use Rattle.table.specs.Sound.{sound_table}
 use Rattle.table.specs.declared.data.Table.{Table}
-use Rattle.table.specs.declared.marks.Ballot.{Ballot}
-use Rattle.table.proofs.Marked.{rows_of, rows_said}
+use Rattle.table.proofs.Marked.{rows_said}
 use Rattle.table.proofs.Same.{parts_sound_lem}
 
 -- ---- the parts, as each loop asks them
@@ -30,20 +27,6 @@ site_right t lasts stamps oks others k = site_sound t.count lasts (rows_of oks o
 
 abbrev pub message_right : Table → List ℕ → List Bool → List Bool → ℕ → Bool
 message_right t stamps oks others j = message_sound t.count (rows_of oks others) stamps (get_or t.messages j no_message)
-
--- ---- one request place, free or used
-
-module _ (t : Table) (lasts : List ℕ) {stamps : List ℕ} {p : ℕ} (named : stamps ≡ stamps_of t.requests) (h : p < 16) where
-  stamp_there : get_or stamps p 0 ≡ (request_at t.requests p).stamp
-  unfolding stamps_of
-  stamp_there = rw named (listed_at 16 p (λ q. (request_at t.requests q).stamp) 0 h)
-
-  pub free_place_lem : {r : Bool} → get_or stamps p 0 ≡ 0 → r ≡ is_blank_request (request_at t.requests p) → r ≡ request_right t lasts stamps p
-  free_place_lem z e = rw (eq-eqb (request_at t.requests p).stamp 0 (sym stamp_there ∙ z)) e
-
-  pub used_place
-      : {r : Bool} → (get_or stamps p 0 ≡ 0 → ⊥) → r ≡ used_sound t.count lasts stamps (request_at t.requests p) p → r ≡ request_right t lasts stamps p
-  used_place z e = rw (ne_eqb (request_at t.requests p).stamp 0 (λ q. z (stamp_there ∙ q))) e
 
 -- ---- the ways out
 
@@ -66,16 +49,15 @@ module _ (t : Table) {a : Bool} (count : a ≡ (leb 1 t.count && leb t.count 7))
     request_wrong k h e f = requests_wrong (all_failed k h e f) ∙ parts_sound_lem t
 
     module _
-        {ballots : List Ballot} {oks others : List Bool} {p : ℕ} (asked : Held 16 (request_right t lasts stamps) p) (over : 16 ≤ p)
-        (said : ballots ≡ ballots_of t.sites)
-        (ok : oks ≡ listed 112 (λ i. is_ok_vote (vote_at (get_or ballots (i % 7) (record { votes = [] })).votes (i / 7)).mark))
-        (other : others ≡ listed 112 (λ i. is_other (vote_at (get_or ballots (i % 7) (record { votes = [] })).votes (i / 7)).mark)) where
-      own : rows_of oks others ≡ marks_of ballots
-      own = rows_said ballots ok other
+        {oks others : List Bool} {p : ℕ} (asked : Held 16 (request_right t lasts stamps) p) (over : 16 ≤ p)
+        (ok : oks ≡ listed 112 (λ i. is_ok_vote (vote_at (get_or t.sites (i % 7) no_site).votes (i / 7)).mark))
+        (other : others ≡ listed 112 (λ i. is_other (vote_at (get_or t.sites (i % 7) no_site).votes (i / 7)).mark)) where
+      own : rows_of oks others ≡ marks_of (ballots_of t.sites)
+      own = rows_said t.sites ok other
 
       sites_wrong : false ≡ all 7 (site_right t lasts stamps oks others) → false ≡ parts_sound t
       unfolding parts_sound
-      sites_wrong e = rw (← count, not-false a counted, ← times, ← named, ← all_over asked over, ← said, ← own, ← e)
+      sites_wrong e = rw (← count, not-false a counted, ← times, ← named, ← all_over asked over, ← own, ← e)
 
       pub site_wrong
           : {k : ℕ} {r : Bool} → Held 7 (site_right t lasts stamps oks others) k → k < 7 → r ≡ site_right t lasts stamps oks others k → not r ≡ true
@@ -86,7 +68,7 @@ module _ (t : Table) {a : Bool} (count : a ≡ (leb 1 t.count && leb t.count 7))
         messages_are : {g : Bool} → g ≡ all 64 (message_right t stamps oks others) → g ≡ parts_sound t
         unfolding parts_sound
         messages_are e =
-            rw (← count, not-false a counted, ← times, ← named, ← all_over asked over, ← said, ← own, ← all_over visited end) e
+            rw (← count, not-false a counted, ← times, ← named, ← all_over asked over, ← own, ← all_over visited end) e
 
         pub message_wrong
             : {j : ℕ} {r : Bool} → Held 64 (message_right t stamps oks others) j → j < 64 → r ≡ message_right t stamps oks others j → not r ≡ true

@@ -1,15 +1,15 @@
 -- How soundness is computed: place by place and site by site, with the sites' own marks and last t's gathered first. A reader of `soundTable`
 -- need not read this: the proofs show that both are the same.
-use Rattle.std.specs.Prelude.{ℕ, ◌-◌, ◌/◌, ◌%◌, Bool, true, false, not, ◌&&◌, cond, List, [], eqb, leb, ltb, ℤ, get_or}
+use Rattle.std.specs.Prelude.{ℕ, ◌-◌, ◌/◌, ◌%◌, Bool, true, false, not, ◌&&◌, cond, List, [], eqb, leb, ltb, ℤ, pos, get_or}
 use Rattle.kit.specs.Lists.{listed}
 use Rattle.kit.specs.Range.{all, implies, one, number}
 use Rattle.majority.specs.Majority.{majority, blocking}
 use Rattle.readings.specs.Readings.{in_range, is_zero}
 use Rattle.sets.specs.Sets.{set_of}
-use Rattle.stamps.specs.Stamps.{time_of, digit_of, issued_form}
+use Rattle.stamps.specs.Stamps.{time_of, digit_of, issued_form, well_formed}
 use Rattle.vote.specs.Data.{is_ok_vote, is_other, is_unmarked, is_deferred, is_open, vote_at, request_at}
 use Rattle.vote.specs.Queue.{queued_at}
-use Rattle.vote.specs.Voters.{voters_of, voters_for, has_voter, are_among, no_voters, voters_in}
+use Rattle.vote.specs.Voters.{knows, voters_of, voters_for, has_voter, are_among, no_voters, voters_in, voters_known}
 use Rattle.vote.specs.declared.data.Mark.{Mark}
 use Rattle.vote.specs.declared.data.Request.{Request}
 use Rattle.vote.specs.declared.data.Site.{Site}
@@ -21,8 +21,15 @@ use Rattle.table.specs.Places.{no_site, no_message}
 use Rattle.table.specs.Sound.{request_allowed, reading_allowed, queue_exact}
 use Rattle.table.specs.declared.data.Message.{Message}
 use Rattle.table.specs.declared.data.Table.{Table}
-use Rattle.table.specs.declared.marks.Ballot.{Ballot}
-use Rattle.table.specs.declared.marks.Marks.{Marks}
+
+-- what one site has said of each of the 16 places
+pub record Ballot : Type 0 where
+  pub votes : List Vote
+
+-- which sites marked a place OK, and which DR or REJ
+pub record Marks : Type 0 where
+  pub oks : List Bool
+  pub others : List Bool
 
 -- ---- gathered first
 
@@ -62,6 +69,13 @@ row_sets known = listed 16 (λ p. row_set (voters_of known p))
 
 abbrev pub marks_in : List Marks → ℕ → Marks
 marks_in marks p = get_or marks p (record { oks = []; others = [] })
+
+-- the own marks kept as a site keeps the voters that it knows: those of place p, and those of all places
+abbrev pub rows_at : List Bool → List Bool → ℕ → Marks
+rows_at oks others p = record { oks = voters_of oks p; others = voters_of others p }
+
+abbrev pub rows_of : List Bool → List Bool → List Marks
+rows_of oks others = listed 16 (rows_at oks others)
 
 -- ---- one request
 
@@ -131,6 +145,31 @@ place_held n me marks stamps s p =
     && implies (eqb (get_or stamps p 0) 0)
     (blank_vote (vote_at s.votes p) && (no_voters (voters_of s.oks p) && no_voters (voters_of s.others p)))
 
+-- the same by the counts of the voters that it knows, which are counted once; that these have such marks is asked of all places at once
+abbrev pub standing_counted : ℕ → Vote → ℕ → ℕ → Bool → Bool
+standing_counted n v x y free =
+    cond (is_open v.verdict)
+    (not (leb (majority n) x) && (not (leb (blocking n) y) && implies (is_unmarked v.mark) (eqb x 0 && eqb y 0)))
+    (not (is_deferred v.mark))
+    && implies free (blank_vote v && (eqb x 0 && eqb y 0))
+
+unfoldable pub place_counted : ℕ → ℕ → List Bool → List Bool → List ℕ → Site → ℕ → Bool
+place_counted n me oks others stamps s p =
+    implies (is_ok_vote (vote_at s.votes p).mark) (knows s.oks p me)
+    && (implies (is_other (vote_at s.votes p).mark) (knows s.others p me)
+    && (backed_by n (rows_at oks others p) (vote_at s.votes p).verdict
+    && standing_counted n (vote_at s.votes p) (voters_known s.oks p) (voters_known s.others p) (eqb (get_or stamps p 0) 0)))
+
+-- what is asked of each site, as the code asks it: what its known voters have marked is asked of all places at once
+abbrev pub rest_counted : ℕ → List ℕ → List Bool → List Bool → List ℕ → ℕ → Site → Bool
+rest_counted n lasts oks others stamps me s =
+    all 24 (λ i. well_formed n (get_or s.stamps i 0) && time_right lasts (get_or s.stamps i 0))
+    && (all 24 (λ i. value_right (get_or s.stamps i 0) (get_or s.values i (pos 0)))
+    && (all 16 (λ i. implies (leb s.waiting i) (eqb (queued_at s.queue i) 0))
+    && (queue_holds s.waiting s.queue s.votes
+    && (all 16 (λ p. are_among (voters_of s.oks p) (voters_of oks p))
+    && (all 16 (λ p. are_among (voters_of s.others p) (voters_of others p)) && all 16 (place_counted n me oks others stamps s))))))
+
 -- site number `me`: blank where it is not a site of the table; its copy, its queue, and what it holds of each place
 -- what is asked of each site
 unfoldable pub site_rest : ℕ → List ℕ → List Marks → List ℕ → ℕ → Site → Bool
@@ -142,6 +181,10 @@ unfoldable pub site_sound : ℕ → List ℕ → List Marks → List ℕ → ℕ
 site_sound n lasts marks stamps me s = implies (leb n me) (is_blank_site s) && site_rest n lasts marks stamps me s
 
 -- ---- one message
+
+-- what it carries of a request, beside the own marks m of all sites
+abbrev pub content_right : ℕ → Marks → Message → Bool
+content_right n m x = are_among x.oks m.oks && (are_among x.others m.others && backed_by n m x.verdict)
 
 unfoldable pub message_sound : ℕ → List Marks → List ℕ → Message → Bool
 message_sound n marks stamps m =

@@ -2,7 +2,8 @@
 use vote::data::{Request, Site, Verdict};
 
 // A message: what site `from` knew of the request at place `request` when it told site `to`. An unused place is blank.
-#[derive(Clone, Copy)]
+// Stays: document 01 names unused places as blank ones and refuses a spoiled one, so `used` stands beside the fields and not an Option.
+#[derive(Clone, Copy, Debug, PartialEq, Eq)]
 pub struct Message {
     pub used: bool,
     pub request: u8,
@@ -13,7 +14,7 @@ pub struct Message {
     pub others: [bool; 7],
 }
 
-#[derive(Clone, Copy)]
+#[derive(Clone, Copy, Debug, PartialEq, Eq)]
 pub struct Table {
     pub count: u8,
     pub sites: [Site; 7],

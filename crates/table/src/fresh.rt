@@ -11,13 +11,11 @@ use vote::voters::{no_known, no_voters};
 pub(crate) fn is_site_count(n: u8) -> bool
     ensures { result ≡ (leb 1 n && leb n 7) }
 {
-    if n < 1 {
-        return false;
-    }
-    n <= 7
+    matches!(n, 1..=7)
 }
 
 // A site that holds nothing.
+#[tactic(auto, unfolding(crate::specs::Fresh::blank_site))]
 pub fn blank_site(up: bool) -> Site
     ensures { result ≡ blank_site up }
 {
@@ -25,8 +23,6 @@ pub fn blank_site(up: bool) -> Site
         mark: Mark::None,
         verdict: Verdict::Open,
     };
-    let oks = no_known();
-    let others = no_known();
     Site {
         up,
         last: 0,
@@ -35,62 +31,61 @@ pub fn blank_site(up: bool) -> Site
         queue: [0; 16],
         waiting: 0,
         votes: [none; 16],
-        oks,
-        others,
+        oks: no_known(),
+        others: no_known(),
     }
 }
 
 // An empty message place.
+#[tactic(auto, unfolding(crate::specs::Fresh::blank_message))]
 pub fn blank_message() -> Message
     ensures { result ≡ blank_message }
 {
-    let oks = no_voters();
-    let others = no_voters();
     Message {
         used: false,
         request: 0,
         from: 0,
         to: 0,
         verdict: Verdict::Open,
-        oks,
-        others,
+        oks: no_voters(),
+        others: no_voters(),
     }
 }
 
 // The table of n sites, each up, that holds nothing.
+#[tactic(auto, unfolding(crate::specs::Fresh::blank_table))]
 fn blank_table(n: u8) -> Table
     ensures { result ≡ blank_table n }
 {
-    let mut sites = [blank_site(false); 7];
-    for k in 0..7 {
-        sites[k] = blank_site(k < kit::index(n));
-    }
     Table {
         count: n,
-        sites,
+        sites: std::array::from_fn(|k| blank_site(k < usize::from(n))),
         requests: [blank_request(); 16],
         messages: [blank_message(); 64],
     }
 }
 
-// A fresh table, or number 3 and a table of no sites.
+// Stays: a refused fresh table is all zeros (document 01, "Numbers given back"), so the table stands beside number 3 too.
 #[derive(Clone, Copy)]
 pub struct FreshTable {
     pub number: u8,
     pub table: Table,
 }
 
+// A fresh table, or number 3 and a table of no sites.
+#[tactic(auto, unfolding(crate::specs::Fresh::fresh_for))]
 pub fn fresh(n: u8) -> FreshTable
     ensures { result ≡ fresh_for n }
 {
     if is_site_count(n) {
-        return FreshTable {
+        FreshTable {
             number: 0,
             table: blank_table(n),
-        };
-    }
-    FreshTable {
-        number: 3,
-        table: blank_table(0),
+        }
+    } else {
+        FreshTable {
+            number: 3,
+            table: blank_table(0),
+        }
     }
 }

@@ -20,8 +20,7 @@ use Rattle.ledger.proofs.Link.{goes_quiet, goes_begins, tied_fresh}
 use Rattle.sets.specs.Sets.{member, inside, of_items}
 use Rattle.sets.proofs.Members.{inside_at, some_item, items_inside}
 use Rattle.stamps.specs.Stamps.{time_of, digit_of}
-use Rattle.stamps.specs.Issue.{issued}
-use Rattle.stamps.specs.declared.Issue.TheVariants as issue
+use Rattle.stamps.specs.Issue.{given, issued}
 use Rattle.stamps.proofs.Laws.{given_larger}
 use Rattle.table.specs.Fresh.{blank_site, blank_table}
 use Rattle.table.specs.Meaning.{ShapedTable, Sound}
@@ -61,7 +60,7 @@ proper_of q e small later = record {
 
 -- and so is one with the stamp that its site issues for these base stamps
 pub proper_issued
-    : (q : Request) (site clock last : ℕ) (stamps : List ℕ) {stamp time : ℕ} → issued site clock last q.base stamps ≡ issue.Given stamp time → q.stamp ≡ stamp
+    : (q : Request) (site clock last : ℕ) (stamps : List ℕ) {stamp time : ℕ} → issued site clock last q.base stamps ≡ given stamp time → q.stamp ≡ stamp
     → ((i : ℕ) → i < 24 → member q.base i ≡ true → get_or q.stamps i 0 ≡ get_or stamps i 0) → sets_allowed q.base q.update ≡ true → q.update < 2 ^ 32
     → Proper (request_of q)
 proper_issued q site clock last stamps {stamp} given named same e small =

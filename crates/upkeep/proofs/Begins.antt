@@ -13,9 +13,8 @@ use Rattle.kit.proofs.Listings.{length_listed, listed_at}
 use Rattle.kit.proofs.Ranges.{all_at, all_of}
 use Rattle.readings.specs.Readings.{in_range}
 use Rattle.sets.specs.Sets.{member}
-use Rattle.stamps.specs.Issue.{issued}
+use Rattle.stamps.specs.Issue.{given, issued}
 use Rattle.stamps.specs.Stamps.{time_of, digit_of, issued_form, well_formed}
-use Rattle.stamps.specs.declared.Issue.TheVariants as issue
 use Rattle.stamps.proofs.Laws.{given_facts, given_digit, given_time, given_form}
 use Rattle.table.specs.Meaning.{ShapedRequest, ShapedTable, Sound}
 use Rattle.table.specs.Places.{site_at, place_at, with_site, with_request}
@@ -70,7 +69,7 @@ module _ (base update : ℕ) (stamps : List ℕ) (values : List ℤ) (stamp : �
 module _ (t : Table) (k p : ℕ) (g : ShapedTable t) (b : Sound t) (hk : k < t.count) (hp : p < 16) (free : (place_at t p).stamp ≡ 0)
     (site clock base update : ℕ) (stamps : List ℕ) (values : List ℤ) (stamp time : ℕ) (is : site ≡ suc k)
     (sets : sets_allowed base update ≡ true) (bases : base_stamps_allowed t.count base stamps ≡ true) (vals : values_allowed update values ≡ true)
-    (given : issued site clock (site_at t k).last base stamps ≡ issue.Given stamp time) where
+    (given : issued site clock (site_at t k).last base stamps ≡ given stamp time) where
   abbrev pub entered_as : Table
   entered_as = with_request p (stored_as base update stamps values stamp) (with_site k (with_last time (site_at t k)) t)
 

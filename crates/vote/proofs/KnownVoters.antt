@@ -2,26 +2,26 @@
 use mathlib.Core.Path.{◌≡◌, refl, sym, ap, ◌∙◌}
 use mathlib.Core.Bool.{Bool, true, false, not, ◌&&◌, ◌||◌, and-false, or-false, or-true}
 use mathlib.Core.List.{List}
-use Prim.Native.Nat.{ℕ, zero, suc, ◌+◌, ◌*◌, ◌/◌, ◌%◌, ◌≤◌, ◌<◌}
+use mathlib.Core.Logic.{◌⊎◌, inl, inr}
+use Prim.Native.Nat.{ℕ, zero, suc, ◌+◌, ◌*◌, ◌-◌, ◌/◌, ◌%◌, ◌≤◌, ◌<◌}
 use native.Mathlib.Numerals.{add-one}
 use native.Mathlib.Omega.{arith}
 use borrow.Author.Tests.{lt-ltb, le-ltb, ltb-true, eq-eqb, ne_eqb, not-true}
 use lib.Dec.{eqb, ltb}
-use lib.ListN.{length, get_or, set, replicate, length-set, get_or-replicate, get_or-eq_default}
-use lib.Seq.{ext_get_or, get_or-set_same, get_or-set_other, set-get_or}
+use borrow.Rule.Slice.PartMut.{put_mid}
+use lib.ListN.{length, get_or, set, replicate, take, drop, length-set, length-drop, get_or-replicate, get_or-eq_default, length-replicate}
+use lib.Seq.{paste, paste-zero, paste-suc, ext_get_or, get_or-set_same, get_or-set_other, set-get_or}
+use Rattle.std.proofs.lemmas.Slice.{put_mid-paste}
+use Rattle.std.proofs.lemmas.List.{length-take, get_or-take, get_or-drop}
 use Rattle.kit.specs.Lists.{listed}
-use Rattle.kit.specs.Range.{any, all, one, number, implies}
+use Rattle.kit.specs.Range.{any, all, number, implies}
 use Rattle.kit.proofs.Bools.{clash, and_left, and_right, implied, implying, same_test, by_eq, by_lt, of_cond}
-use Rattle.kit.proofs.Listings.{Filled, filled_put, length_listed, listed_at, listed_same}
+use Rattle.kit.proofs.Listings.{length_listed, listed_at, listed_of, listed_same}
 use Rattle.kit.proofs.Ranges.{any_suc, any_at, none_of, all_at, all_of, number_le, number_same, number_grows, number_none}
-use Rattle.vote.specs.Voters.{knows, voters_of, only_voter, join_up_to, join_voters, has_voter, voters_for, voters_known, no_known, are_among, clear_up_to, clear_voters}
+use Rattle.vote.specs.Voters.{knows, voters_of, only_voter, join_up_to, join_voters, has_voter, voters_for, voters_in, voters_known, no_known, are_among, clear_up_to, clear_voters}
 use Rattle.vote.proofs.Rows.{row_in, row_known, row_number, length_clear_up_to}
 
--- ---- as the code asks and makes them; `at` is the place as an index
-
-pub unknown_place : (known : List Bool) {at p : ℕ} (u : ℕ) → at ≡ p → 15 < at → false ≡ knows known p u
-unfolding knows
-unknown_place known {at} {p} u e h = rw (le-ltb p 16 (omega arith))
+-- ---- as the code makes them; `at` is the place as an index
 
 pub unknown_voter : (known : List Bool) (p : ℕ) {u : ℕ} → 6 < u → false ≡ knows known p u
 unfolding knows
@@ -32,21 +32,19 @@ known_is : (known : List Bool) (p u : ℕ) → p < 16 → u < 7 → get_or known
 unfolding knows
 known_is known p u h l = rw (lt-ltb p 16 h, lt-ltb u 7 l)
 
-pub known_at : (known : List Bool) {at p : ℕ} (u : ℕ) → at ≡ p → at ≤ 15 → u ≤ 6 → get_or known (7 * at + u) false ≡ knows known p u
-known_at known {at} {p} u e h l = rw e (known_is known p u (omega arith) (omega arith))
-
--- of no place, nobody
-pub nobody_known : (known : List Bool) {at p : ℕ} → at ≡ p → 15 < at → replicate 7 false ≡ voters_of known p
+-- the row of place p, as it stands in the list, and nobody at a place above 15
+pub row_taken : {at p : ℕ} (known : List Bool) → length known ≡ 112 → at ≡ p → p < 16 → take (7 * at + 7 - 7 * at) (drop (7 * at) known) ≡ voters_of known p
 unfolding voters_of
-nobody_known known {at} {p} e h =
-    ext_get_or false (replicate 7 false) (listed 7 (knows known p)) (sym (length_listed 7 (knows known p)))
-    (λ k l. get_or-replicate 7 k false false l ∙ unknown_place known k e h ∙ sym (listed_at 7 k (knows known p) false l))
+row_taken {at} {p} known l e h =
+    let n : 7 * at + 7 - 7 * at ≡ 7 = omega arith in
+    rw (n, e)
+    (listed_of 7 (take 7 (drop (7 * p) known)) false (length-take 7 (drop (7 * p) known) ∙ omega (arith, length-drop (7 * p) known))
+    ∙ listed_same 7 (λ u. get_or (take 7 (drop (7 * p) known)) u false) (knows known p)
+    (λ u k. get_or-take 7 (drop (7 * p) known) u false k ∙ get_or-drop (7 * p) known u false ∙ known_is known p u h k))
 
--- one voter more of a row that is being read
-pub row_more
-    : (known : List Bool) {at p : ℕ} (u : ℕ) (row : List Bool) → at ≡ p → at ≤ 15 → u < 7 → Filled false 7 (knows known p) u row
-    → Filled false 7 (knows known p) (u + 1) (set row u (get_or known (7 * at + u) false))
-row_more known {at} {p} u row e h l w = filled_put false 7 (knows known p) u row (get_or known (7 * at + u) false) l (known_at known u e h (omega arith)) w
+pub row_of_none : (known : List Bool) (p : ℕ) → 16 ≤ p → replicate 7 false ≡ voters_of known p
+unfolding voters_of knows listed
+row_of_none known p h = rw (le-ltb p 16 h) refl
 
 pub joined_none : (known : List Bool) (p : ℕ) (more : List Bool) → known ≡ join_up_to 0 known p more
 unfolding join_up_to
@@ -59,15 +57,14 @@ unfolding join_up_to
 joined_more known more u e f g = rw (g, f, e, add-one u)
 
 pub joined_over
-    : (known : List Bool) {at p : ℕ} (more : List Bool) (u : ℕ) {w : List Bool} → at ≡ p → w ≡ join_up_to u known p more → at ≤ 15 → u ≤ 7 → 7 ≤ u
-    → w ≡ join_voters known p more
+    : (known : List Bool) {p : ℕ} (more : List Bool) (u : ℕ) {w : List Bool} → p < 16 → w ≡ join_up_to u known p more → u ≡ 7 → w ≡ join_voters known p more
 unfolding join_voters
-joined_over known {at} {p} more u e f i l h = let z : u ≡ 7 = omega arith in rw (lt-ltb p 16 (omega arith), ← z) f
+joined_over known {p} more u h f z = rw (lt-ltb p 16 h, ← z) f
 
 -- a place above 15 has no voters
-pub joined_out : (known : List Bool) {at p : ℕ} (more : List Bool) → at ≡ p → 15 < at → known ≡ join_voters known p more
+pub joined_out : (known : List Bool) (p : ℕ) (more : List Bool) → 16 ≤ p → known ≡ join_voters known p more
 unfolding join_voters
-joined_out known {at} {p} more e h = rw (le-ltb p 16 (omega arith))
+joined_out known p more h = rw (le-ltb p 16 h)
 
 -- ---- what all others see
 
@@ -189,21 +186,15 @@ module _ (known : List Bool) (p u : ℕ) (hp : p < 16) where
       (λ e. rw (← e, alone_before u (omega arith) (omega arith), knows_only u u (omega arith), eq-eqb u u refl, or-true))
       (λ ne. rw (alone_behind n (omega arith) (omega (arith, ne)), knows_only u n (omega arith), ne_eqb u n ne, or-false, set-get_or))
 
--- as the code joins it; `v` is the voter as an index
-module _ (known : List Bool) {at p v u : ℕ} (e : at ≡ p) (f : v ≡ u) (h : at ≤ 15) where
-  pub joined_one : v ≤ 6 → set known (7 * at + v) true ≡ join_voters known p (only_voter u)
-  unfolding join_voters
-  joined_one l = rw (lt-ltb p 16 (omega arith), alone_behind known p u (omega arith) 7 (omega arith) (omega arith), e, f)
+-- as the code joins it; `at` and `v` are the place and the voter as indices
+pub joined_one : (known : List Bool) {at p v u : ℕ} → at ≡ p → v ≡ u → p < 16 → u < 7 → set known (7 * at + v) true ≡ join_voters known p (only_voter u)
+unfolding join_voters
+joined_one known {at} {p} {v} {u} e f h l = rw (lt-ltb p 16 h, alone_behind known p u h 7 (omega arith) l, e, f)
 
-  pub joined_nobody : 6 < v → known ≡ join_voters known p (only_voter u)
-  unfolding join_voters
-  joined_nobody l = rw (lt-ltb p 16 (omega arith), alone_before known p u (omega arith) 7 (omega arith) (omega arith))
-
--- one voter of a row beside those known of place p
-pub all_known_at
-    : {x y r : Bool} (row known : List Bool) (p u : ℕ) → r ≡ implies x y → x ≡ has_voter row u → y ≡ knows known p u → u < 7
-    → r ≡ implies (has_voter row u) (has_voter (voters_of known p) u)
-all_known_at row known p u e f g h = rw (row_known known p u h, ← f, ← g) e
+pub joined_nobody : (known : List Bool) (p u : ℕ) → (p < 16 × 7 ≤ u) ⊎ (16 ≤ p) → known ≡ join_voters known p (only_voter u)
+unfolding join_voters
+joined_nobody known p u (inl w) = rw (lt-ltb p 16 w.0, alone_before known p u w.0 7 (omega arith) w.1)
+joined_nobody known p u (inr h) = rw (le-ltb p 16 h)
 
 -- ---- how many
 
@@ -212,13 +203,19 @@ pub voters_number : (known : List Bool) (p : ℕ) → voters_known known p ≡ n
 unfolding voters_known
 voters_number known p = row_number (voters_of known p) ∙ number_same (has_voter (voters_of known p)) (knows known p) 7 (λ u h. row_known known p u h)
 
--- as the code counts them, one or none more at a turn
-pub one_room : {d : ℕ} (b : Bool) → d ≡ one b → d ≤ 1
-one_room true e = omega arith
-one_room false e = omega arith
+-- as the code counts them, where they stand
+pub counted_at
+    : {r at p : ℕ} (known : List Bool) → length known ≡ 112 → at ≡ p → p < 16 → r ≡ voters_in (take (7 * at + 7 - 7 * at) (drop (7 * at) known))
+    → r ≡ voters_known known p
+unfolding voters_known
+counted_at known l e h f = f ∙ ap voters_in (row_taken known l e h)
 
-pub known_counted : {k : ℕ} (known : List Bool) (p : ℕ) → k ≡ number 7 (knows known p) → k ≡ voters_known known p
-known_counted known p e = e ∙ sym (voters_number known p)
+nobody_there : (known : List Bool) (p u : ℕ) → 16 ≤ p → knows known p u ≡ false
+unfolding knows
+nobody_there known p u h = rw (le-ltb p 16 h)
+
+pub counted_nowhere : (known : List Bool) (p : ℕ) → 16 ≤ p → 0 ≡ voters_known known p
+counted_nowhere known p h = sym (voters_number known p ∙ number_none 7 (knows known p) (λ u k. nobody_there known p u h))
 
 pub voters_few : (known : List Bool) (p : ℕ) → voters_known known p ≤ 7
 voters_few known p = rw (voters_number known p) (number_le 7 (knows known p))
@@ -285,9 +282,6 @@ pub strange_none : (f : ℕ → Bool) → false ≡ any 0 f
 unfolding any
 strange_none f = refl
 
-pub strange_more : {s r d : Bool} (f : ℕ → Bool) (i : ℕ) → d ≡ (s || r) → s ≡ any i f → r ≡ f i → d ≡ any (i + 1) f
-strange_more f i e g h = rw (add-one i, any_suc, ← g, ← h) e
-
 not_without : (x y : Bool) → (x ≡ true → y ≡ true) → (x && not y) ≡ false
 not_without true y h = rw (h refl)
 not_without false y h = refl
@@ -322,6 +316,12 @@ module _ (a b : List Bool) where
       rw (e, j)
       (same_test (not (any 112 (without a b))) (all 16 (λ p. are_among (voters_of a p) (voters_of b p)))
       (λ t. none_strange (not-true _ t)) (λ t. ap not (strange_none_of t)))
+
+-- as the code notes them: x and y stand at place i of both
+pub strange_more
+    : (a b : List Bool) {s x y : Bool} (i : ℕ) {n : ℕ} → n ≡ i + 1 → s ≡ any i (without a b) → x ≡ get_or a i false → y ≡ get_or b i false
+    → (s || (x && not y)) ≡ any n (without a b)
+strange_more a b i e f g h = rw (e, add-one i, any_suc, f, g, h)
 
 -- a list made of a test of each place and voter knows whom the test passes
 pub listed_known : (f : ℕ → ℕ → Bool) (p : ℕ) → p < 16 → voters_of (listed 112 (λ i. f (i / 7) (i % 7))) p ≡ voters_for (f p)
@@ -358,3 +358,23 @@ module _ (known : List Bool) (p : ℕ) where
       rw (lt-ltb p 16 hp, lt-ltb q 16 hq, lt-ltb u 7 hu)
       (by_eq p q (λ e. rw (eq-eqb p q e, ← e) (cleared_here 7 u hu (omega arith)))
       (λ ne. rw (ne_eqb p q ne) (cleared_there 7 (7 * q + u) (λ v k e. ne (omega arith)))))
+
+  -- the row of place p filled with false, as the code clears it
+  cleared_as : (n : ℕ) → n ≤ 7 → length known ≡ 112 → p < 16 → paste known (7 * p) (replicate 7 false) n ≡ clear_up_to n known p
+  unfolding clear_up_to
+  cleared_as zero h l hp = sym (paste-zero known (7 * p) (replicate 7 false))
+  cleared_as (suc n) h l hp =
+      sym (paste-suc known (7 * p) (replicate 7 false) n false (omega arith) (omega (arith, length-replicate 7 false)))
+      ∙ rw (get_or-replicate 7 n false false (omega arith), cleared_as n (omega arith) l hp)
+
+  pub cleared_row
+      : {at : ℕ} {row : List Bool} → length known ≡ 112 → at ≡ p → p < 16 → row ≡ replicate 7 false
+      → put_mid (7 * at) (7 * at + 7 - 7 * at) known row ≡ clear_voters known p
+  unfolding clear_voters
+  cleared_row {at} {row} l e h f =
+      rw (lt-ltb p 16 h, e)
+      (put_mid-paste (7 * p) (7 * p + 7 - 7 * p) known row (replicate 7 false) 7 f (omega arith) (sym (length-replicate 7 false)) ∙ cleared_as 7 (omega arith) l h)
+
+  pub cleared_none : 16 ≤ p → known ≡ clear_voters known p
+  unfolding clear_voters
+  cleared_none h = rw (le-ltb p 16 h)

@@ -1,9 +1,9 @@
 -- Laws of what one site does, each family in a file of its own.
-pub mod Marks
 pub mod KnownVoters
 pub mod Rows
 pub mod Queues
 pub mod Writes
+mod WrittenItems
 pub mod VerdictsDue
 pub mod Conflicts
 pub mod Considering
@@ -12,8 +12,3 @@ pub mod Said
 pub mod MarkKinds
 pub mod After
 pub mod Shapes
-pub mod Together
-pub mod VoteNumbers
-pub mod NoteRows
-pub mod Heads
-pub mod Elements

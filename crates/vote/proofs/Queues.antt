@@ -1,5 +1,5 @@
 -- A site's queue of deferred requests: what the code makes of it, and what stands where afterwards.
-use mathlib.Core.Path.{◌≡◌, refl, sym, ap, ◌∙◌}
+use mathlib.Core.Path.{◌≡◌, sym, ap, ◌∙◌}
 use mathlib.Core.List.{List}
 use Prim.Native.Nat.{ℕ, suc, ◌+◌, ◌-◌, ◌≤◌, ◌<◌}
 use native.Mathlib.Omega.{arith}
@@ -15,22 +15,13 @@ use Rattle.kit.proofs.Ranges.{any_hit, none_of, first_le, first_hit, first_none}
 use Rattle.vote.specs.Queue.{queued_at, queue_joined, count_joined, joins_queue, leaves_queue, place_in_queue}
 use Rattle.vote.specs.declared.data.Site.{Site}
 
--- ---- as the code asks and makes it; `at` is a number of the site as an index
+-- ---- as the code asks and makes it
 
 pub queued_behind : (queue : List ℕ) (i : ℕ) → length queue ≤ i → 0 ≡ queued_at queue i
 queued_behind queue i h = sym (get_or-eq_default queue 0 h)
 
 pub queued_out : (queue : List ℕ) (i : ℕ) → length queue ≡ 16 → 15 < i → 0 ≡ queued_at queue i
 queued_out queue i e h = queued_behind queue i (omega arith)
-
-module _ (queue : List ℕ) {n at : ℕ} (p : ℕ) (e : at ≡ n) where
-  pub joins_full : 15 < at → (n ≡ count_joined n) × (queue ≡ queue_joined queue n p)
-  unfolding count_joined queue_joined
-  joins_full h = rw (le-ltb n 16 (omega arith)) (refl, refl)
-
-  pub joins_end : at ≤ 15 → (n + 1 ≡ count_joined n) × (set queue at p ≡ queue_joined queue n p)
-  unfolding count_joined queue_joined
-  joins_end h = rw (lt-ltb n 16 (omega arith), e) (refl, refl)
 
 pub leaves_empty : (s : Site) (i : ℕ) → s.waiting ≡ 0 → s ≡ leaves_queue s i
 unfolding leaves_queue

@@ -1,19 +1,19 @@
 -- A row of voters, and the row that a site knows of one place: what is in it, how many, and what forgetting leaves.
-use mathlib.Core.Path.{◌≡◌, refl, sym, ap, ap₂, ◌∙◌}
-use mathlib.Core.Bool.{Bool, true, false, not}
+use mathlib.Core.Path.{◌≡◌, refl, sym, ap, ◌∙◌}
+use mathlib.Core.Bool.{Bool, true, false, not, beq}
 use mathlib.Core.List.{List}
 use Prim.Native.Nat.{ℕ, zero, suc, ◌+◌, ◌*◌, ◌≤◌, ◌<◌}
-use native.Mathlib.Numerals.{add-one}
 use native.Mathlib.Omega.{arith}
 use borrow.Author.Tests.{lt-ltb, le-ltb, not-true}
 use lib.Dec.{ltb}
-use lib.ListN.{length, get_or, set, length-set, get_or-replicate}
-use lib.Seq.{set_out}
-use Rattle.kit.specs.Range.{number, implies}
+use lib.ListN.{length, get_or, length-set, get_or-replicate}
+use Rattle.std.specs.List.{list_any}
+use Rattle.kit.specs.Range.{number}
 use Rattle.kit.proofs.Bools.{by_lt, of_cond}
 use Rattle.kit.proofs.Listings.{listed_at}
 use Rattle.kit.proofs.Passing.{length_passing}
-use Rattle.kit.proofs.Ranges.{any_at, none_of}
+use Rattle.kit.proofs.Iterated.{any_elements}
+use Rattle.kit.proofs.Ranges.{any_at, any_same, none_of}
 use Rattle.vote.specs.Voters.{knows, voters_of, has_voter, voters_for, no_voters, voter_list, voters_in, none_known, clear_up_to, clear_voters, no_row}
 
 -- ---- as the code asks
@@ -25,12 +25,6 @@ row_out row u h = rw (le-ltb u 7 (omega arith))
 pub row_in : (row : List Bool) (u : ℕ) → u ≤ 6 → get_or row u false ≡ has_voter row u
 unfolding has_voter
 row_in row u h = rw (lt-ltb u 7 (omega arith))
-
-pub put_out : (row : List Bool) (u : ℕ) (b : Bool) → length row ≡ 7 → 7 ≤ u → row ≡ set row u b
-put_out row u b e h = sym (set_out row u b (omega arith))
-
-pub among_at : {x y r : Bool} (a b : List Bool) (u : ℕ) → r ≡ implies x y → x ≡ has_voter a u → y ≡ has_voter b u → r ≡ implies (has_voter a u) (has_voter b u)
-among_at a b u e f g = e ∙ ap₂ implies f g
 
 -- ---- what is in a row
 
@@ -52,6 +46,17 @@ pub row_number : (row : List Bool) → voters_in row ≡ number 7 (has_voter row
 unfolding voters_in voter_list
 row_number row = length_passing 7 (has_voter row)
 
+-- as the code asks
+is_true : (b : Bool) → beq b true ≡ b
+is_true true = refl
+is_true false = refl
+
+pub row_searched : {r : Bool} (row : List Bool) → length row ≡ 7 → r ≡ list_any (λ b. beq b true) row → not r ≡ no_voters row
+unfolding no_voters
+row_searched row e f =
+    ap not (f ∙ any_elements (λ b. beq b true) row false e
+    ∙ any_same (λ u. beq (get_or row u false) true) (has_voter row) 7 (λ u h. is_true (get_or row u false) ∙ row_in row u (omega arith)))
+
 -- no voter, from the test and to it
 pub nobody_at : (row : List Bool) (u : ℕ) → no_voters row ≡ true → u < 7 → has_voter row u ≡ false
 unfolding no_voters
@@ -70,23 +75,6 @@ unfolding none_known
 unknown_of known p h = nobody_of (voters_of known p) (λ u l. row_known known p u l ∙ h u l)
 
 -- ---- forgetting the voters of one place
-
-pub cleared_none : (known : List Bool) (p : ℕ) → known ≡ clear_up_to 0 known p
-unfolding clear_up_to
-cleared_none known p = refl
-
-pub cleared_more
-    : (known : List Bool) {at p : ℕ} (u : ℕ) {w : List Bool} → at ≡ p → w ≡ clear_up_to u known p → set w (7 * at + u) false ≡ clear_up_to (u + 1) known p
-unfolding clear_up_to
-cleared_more known u e f = rw (f, e, add-one u)
-
-pub cleared_over : (known : List Bool) {at p : ℕ} (u : ℕ) {w : List Bool} → at ≡ p → w ≡ clear_up_to u known p → at ≤ 15 → u ≤ 7 → 7 ≤ u → w ≡ clear_voters known p
-unfolding clear_voters
-cleared_over known {at} {p} u e f i l h = let z : u ≡ 7 = omega arith in rw (lt-ltb p 16 (omega arith), ← z) f
-
-pub cleared_out : (known : List Bool) {at p : ℕ} → at ≡ p → 15 < at → known ≡ clear_voters known p
-unfolding clear_voters
-cleared_out known {at} {p} e h = rw (le-ltb p 16 (omega arith))
 
 pub length_clear_up_to : (n : ℕ) (known : List Bool) (p : ℕ) → length (clear_up_to n known p) ≡ length known
 unfolding clear_up_to

@@ -1,5 +1,5 @@
 -- Accepting a request writes its copy: what stands at each item afterwards.
-use mathlib.Core.Path.{◌≡◌, refl}
+use mathlib.Core.Path.{◌≡◌}
 use mathlib.Core.Bool.{true, false, cond, and-false}
 use mathlib.Core.List.{List}
 use Prim.Native.Nat.{ℕ, ◌<◌, ◌≤◌}
@@ -11,12 +11,9 @@ use lib.ListN.{length, get_or}
 use Rattle.kit.proofs.Bools.{and_left, and_right, both_true, by_lt, of_cond}
 use Rattle.kit.proofs.Changes.{length_changed, changed_at}
 use Rattle.sets.specs.Sets.{member}
-use Rattle.vote.specs.Data.{head_of, request_of}
-use Rattle.vote.specs.Verdicts.{writes_item, new_stamp, new_value, written_up_to, written_site, decided, ruled}
+use Rattle.vote.specs.Verdicts.{writes_item, new_stamp, new_value, written_up_to, written_site}
 use Rattle.vote.specs.declared.data.Request.{Request}
 use Rattle.vote.specs.declared.data.Site.{Site}
-use Rattle.vote.specs.declared.data.Verdict.{Verdict}
-use Rattle.vote.specs.declared.data.Verdict.TheVariants as verdict
 
 module _ (s : Site) (q : Request) where
   -- what stands at item i: the request's where it is written, else what stood there
@@ -71,10 +68,3 @@ module _ (s : Site) (q : Request) (i : ℕ) (h : i < 24) (l : length s.stamps �
       rw (written_stamp s q i h l)
       (by_lt (get_or s.stamps i 0) q.stamp (λ k. rw (writes_of s.stamps q i m k) (omega arith))
       (λ k. rw (writes_late s.stamps q i k) k))
-
--- ruling looks at a request's head and at its new values alone
-pub ruled_by : (s : Site) (q : Request) (ts : List ℕ) (p : ℕ) (d : Verdict) → ruled s (request_of (head_of q) ts q.values) p d ≡ ruled s q p d
-unfolding ruled decided written_site written_up_to writes_item
-ruled_by s q ts p verdict.Open = refl
-ruled_by s q ts p verdict.Accepted = refl
-ruled_by s q ts p verdict.Rejected = refl

@@ -96,10 +96,6 @@ request_of h ts vs = record { stamp = h.stamp; base = h.base; update = h.update;
 unfoldable pub heads_of : List Request → List Head
 heads_of rs = listed 16 (λ j. head_of (request_at rs j))
 
--- the heads with these stamps, base sets and update sets
-unfoldable pub heads_from : List ℕ → List ℕ → List ℕ → List Head
-heads_from names bases updates = listed 16 (λ p. record { stamp = get_or names p 0; base = get_or bases p 0; update = get_or updates p 0 })
-
 -- the head of the request at place j
 abbrev pub head_at : List Head → ℕ → Head
 head_at heads j = get_or heads j no_head

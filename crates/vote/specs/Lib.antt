@@ -7,5 +7,3 @@ pub mod Consider
 pub mod Queue
 pub mod Voting
 pub mod Verdicts
-pub mod Notes
-pub mod Numbers

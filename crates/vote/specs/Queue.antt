@@ -24,17 +24,6 @@ joins_queue s p = with_queue (queue_joined s.queue s.waiting p) (count_joined s.
 unfoldable pub leaves_queue : Site → ℕ → Site
 leaves_queue s i = cond (eqb s.waiting 0) s (with_queue (without 0 s.queue i) (s.waiting - 1) s)
 
--- the same of a queue of n, of which n - 1 are left then
-unfoldable pub queue_left : List ℕ → ℕ → ℕ → List ℕ
-queue_left queue n i = cond (eqb n 0) queue (without 0 queue i)
-
 -- where request place p stands among the first w of the queue, and w where it does not
 unfoldable pub place_in_queue : List ℕ → ℕ → ℕ → ℕ
 place_in_queue queue w p = first w (λ i. eqb (queued_at queue i) p)
-
--- a queue of n without request place p, where it stands there, and how many it has then
-unfoldable pub queue_released : List ℕ → ℕ → ℕ → List ℕ
-queue_released queue n p = cond (ltb (place_in_queue queue n p) n) (queue_left queue n (place_in_queue queue n p)) queue
-
-unfoldable pub count_released : List ℕ → ℕ → ℕ → ℕ
-count_released queue n p = cond (ltb (place_in_queue queue n p) n) (n - 1) n

@@ -40,17 +40,6 @@ stamps_written held q = changed 24 (new_stamp held q) held
 unfoldable pub values_written : List ℕ → Request → List ℤ → List ℤ
 values_written held q values = changed 24 (new_value held q) values
 
--- the same after a verdict on q, of which only an acceptance writes
-abbrev pub stamps_ruled : Verdict → List ℕ → Request → List ℕ
-stamps_ruled verdict.Open held q = held
-stamps_ruled verdict.Accepted held q = stamps_written held q
-stamps_ruled verdict.Rejected held q = held
-
-abbrev pub values_ruled : Verdict → List ℕ → Request → List ℤ → List ℤ
-values_ruled verdict.Open held q values = values
-values_ruled verdict.Accepted held q values = values_written held q values
-values_ruled verdict.Rejected held q values = values
-
 -- the site with the first n items of its copy written
 unfoldable pub written_up_to : ℕ → Site → Request → Site
 written_up_to n s q = with_copies (changed n (new_stamp s.stamps q) s.stamps) (changed n (new_value s.stamps q) s.values) s

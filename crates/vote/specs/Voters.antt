@@ -1,8 +1,7 @@
 -- The voters that a site knows. They are kept as 112 tests, voter u of request place p at 7 × p + u; no other file sees through that.
-use Rattle.std.specs.Prelude.{ℕ, zero, suc, ◌+◌, ◌*◌, ◌-◌, Bool, false, not, ◌&&◌, ◌||◌, cond, List, ◌++◌, eqb, ltb, length, get_or, set, replicate}
+use Rattle.std.specs.Prelude.{ℕ, zero, suc, ◌+◌, ◌*◌, Bool, false, not, ◌&&◌, ◌||◌, cond, List, eqb, ltb, length, get_or, set, replicate}
 use Rattle.kit.specs.Lists.{listed}
 use Rattle.kit.specs.Range.{any, all, implies, passing}
-use Rattle.vote.specs.declared.voters.Listed.{Listed}
 
 -- voter u of place p is known
 unfoldable pub knows : List Bool → ℕ → ℕ → Bool
@@ -51,10 +50,6 @@ voter_list row = passing 7 (has_voter row)
 -- how many they are
 unfoldable pub voters_in : List Bool → ℕ
 voters_in row = length (voter_list row)
-
--- the list in seven places, 0 behind it, and its length
-unfoldable pub voters_listed : List Bool → Listed
-voters_listed row = record { sites = voter_list row ++ replicate (7 - voters_in row) 0; count = voters_in row }
 
 -- ---- what a site knows of place p
 

@@ -1,15 +1,13 @@
 // Considering a request: document 01's five rules.
-ghost use Rattle.std.specs.Prelude.{◌≡◌, ◌&&◌};
-ghost use Rattle.vote.specs.Data.{is_ok_vote, is_other, is_unmarked, is_deferred, is_open, is_pending, heads_from};
-ghost use Rattle.vote.specs.Consider.{newer_copy, older_copy, pending_set, blocked, blocked_above, weighed, mark_of, defers};
-ghost use Rattle.vote.specs.Numbers.{vote_from, votes_from};
-ghost use Rattle.vote.specs.Requests.{conflicts, outranks};
+ghost use Rattle.std.specs.Prelude.{◌≡◌};
+ghost use Rattle.vote.specs.Consider.{newer_copy, older_copy, in_way, in_way_above, blocked, blocked_above, weighed, considered, mark_of, defers};
+ghost use Rattle.vote.specs.Data.{heads_of, is_deferred, is_ok_vote, is_open, is_other, is_pending, is_unmarked};
 
-use crate::data::{Head, Mark, Verdict, Vote};
-use crate::requests::{head_from, is_conflicting, is_outranking};
+use crate::data::{Head, Mark, Request, Verdict, Vote};
+use crate::requests::{head_of, is_conflicting, is_outranking};
 
 // What comes of considering a request, by the rule that fitted.
-#[derive(Clone, Copy)]
+#[derive(Clone, Copy, Debug, PartialEq, Eq)]
 pub enum Outcome {
     Rej,
     DeferBase,
@@ -18,184 +16,148 @@ pub enum Outcome {
     Ok,
 }
 
+// A vote of OK.
 pub fn is_ok(m: Mark) -> bool
     ensures { result ≡ is_ok_vote m }
 {
-    match m {
-        Mark::None => false,
-        Mark::Deferred => false,
-        Mark::Ok => true,
-        Mark::Dr => false,
-        Mark::Rej => false,
-    }
+    matches!(m, Mark::Ok)
 }
 
+// A deferral, which is no vote.
 pub fn is_deferred(m: Mark) -> bool
     ensures { result ≡ is_deferred m }
 {
-    match m {
-        Mark::None => false,
-        Mark::Deferred => true,
-        Mark::Ok => false,
-        Mark::Dr => false,
-        Mark::Rej => false,
-    }
+    matches!(m, Mark::Deferred)
 }
 
-// Whether a mark is a vote of DR or REJ.
+// A vote of DR or REJ.
 pub fn is_other(m: Mark) -> bool
     ensures { result ≡ is_other m }
 {
-    match m {
-        Mark::None => false,
-        Mark::Deferred => false,
-        Mark::Ok => false,
-        Mark::Dr => true,
-        Mark::Rej => true,
-    }
+    matches!(m, Mark::Dr | Mark::Rej)
 }
 
+// No mark.
 pub fn is_unmarked(m: Mark) -> bool
     ensures { result ≡ is_unmarked m }
 {
-    match m {
-        Mark::None => true,
-        Mark::Deferred => false,
-        Mark::Ok => false,
-        Mark::Dr => false,
-        Mark::Rej => false,
-    }
+    matches!(m, Mark::None)
 }
 
+// No verdict yet.
 pub fn is_open(v: Verdict) -> bool
     ensures { result ≡ is_open v }
 {
-    match v {
-        Verdict::Open => true,
-        Verdict::Accepted => false,
-        Verdict::Rejected => false,
-    }
+    matches!(v, Verdict::Open)
 }
 
 // Whether a request voted so is pending: marked OK and held open.
+#[tactic(auto, unfolding(crate::specs::Data::is_pending))]
 pub fn is_pending(v: Vote) -> bool
     ensures { result ≡ is_pending v }
 {
-    let m = v.mark;
-    let d = v.verdict;
-    is_ok(m) && is_open(d)
+    is_ok(v.mark) && is_open(v.verdict)
 }
 
 // Whether some base item's copy has a larger stamp than the base stamp. What is left of the base set gives up its lowest item at each turn.
-pub fn is_newer<'a>(base: u32, based: &'a [u64; 24], held: &'a [u64; 24]) -> bool
+pub fn is_newer(base: u32, based: &[u64; 24], held: &[u64; 24]) -> bool
     ensures { result ≡ newer_copy base based.now held.now }
 {
+    // Stays: lowest item first by two operations a turn, here, in `write_items`, in table's tests of a request and in record's readers; an iterator of items would hold the same loop and ask the same law again, and is no plainer.
     let mut left = base;
     while left != 0 {
-        let item = u32::trailing_zeros(left) as usize;
+        let item = left.trailing_zeros() as usize;
         if 23 < item {
             return false;
         }
         if based[item] < held[item] {
             return true;
         }
-        left = left & (left - 1);
+        left &= left - 1;
     }
     false
 }
 
 // Whether some base stamp is larger than the copy's.
-pub fn is_older<'a>(base: u32, based: &'a [u64; 24], held: &'a [u64; 24]) -> bool
+#[tactic(auto, unfolding(crate::specs::Consider::newer_copy, crate::specs::Consider::older_copy))]
+pub fn is_older(base: u32, based: &[u64; 24], held: &[u64; 24]) -> bool
     ensures { result ≡ older_copy base based.now held.now }
 {
     is_newer(base, held, based)
 }
 
-// Whether o conflicts with q and has higher priority.
-fn is_above(o: Head, q: Head) -> bool
-    ensures { result ≡ (conflicts q o && outranks o q) }
+// Whether the request o, voted v, is pending and q conflicts with it.
+#[tactic(auto, unfolding(crate::specs::Consider::in_way))]
+fn is_in_way(v: Vote, o: Head, q: Head) -> bool
+    ensures { result ≡ in_way v o q }
 {
-    is_conflicting(q, o) && is_outranking(o, q)
+    is_pending(v) && is_conflicting(q, o)
 }
 
-// The same of the number of what is said.
-fn is_pending_number(c: u8) -> bool
-    ensures { result ≡ is_pending (vote_from c) }
+// The same, and o has higher priority than q.
+#[tactic(auto, unfolding(crate::specs::Consider::in_way_above))]
+fn is_in_way_above(v: Vote, o: Head, q: Head) -> bool
+    ensures { result ≡ in_way_above v o q }
 {
-    c == 2
+    is_in_way(v, o, q) && is_outranking(o, q)
 }
 
-// The places of the pending requests, as a set.
-fn pending_in(votes: &[u8; 16]) -> u32
-    ensures { result ≡ pending_set (votes_from votes.now) }
+// Whether q conflicts with a pending request. No turn leaves the loop, so that the tests can be made side by side.
+// Stays: a loop here and one in `is_blocked_above`; tried as `zip` and `any`, and the last goal stayed open; branches are slower (1.2 times the night).
+pub fn is_blocked(requests: &[Request; 16], votes: &[Vote; 16], q: Head) -> bool
+    ensures { result ≡ blocked (heads_of requests.now) votes.now q }
 {
-    let mut set: u32 = 0;
-    for j in 0..16 {
-        set = set + (kit::one_if(is_pending_number(votes[j])) << j);
+    let mut blocked = false;
+    for (o, v) in requests.iter().zip(votes) {
+        blocked |= is_in_way(*v, head_of(o), q);
     }
-    set
-}
-
-// Whether q conflicts with a pending request. What is left of the pending gives up its lowest place at each turn.
-pub fn is_blocked<'a>(
-    names: &'a [u64; 16],
-    bases: &'a [u32; 16],
-    updates: &'a [u32; 16],
-    votes: &'a [u8; 16],
-    q: Head,
-) -> bool
-    ensures { result ≡ blocked (heads_from names.now bases.now updates.now) (votes_from votes.now) q }
-{
-    let mut left = pending_in(votes);
-    while left != 0 {
-        let j = u32::trailing_zeros(left) as usize;
-        if is_conflicting(q, head_from(names, bases, updates, j)) {
-            return true;
-        }
-        left = left & (left - 1);
-    }
-    false
+    blocked
 }
 
 // Whether q conflicts with a pending request of higher priority.
-pub fn is_blocked_above<'a>(
-    names: &'a [u64; 16],
-    bases: &'a [u32; 16],
-    updates: &'a [u32; 16],
-    votes: &'a [u8; 16],
-    q: Head,
-) -> bool
-    ensures { result ≡ blocked_above (heads_from names.now bases.now updates.now) (votes_from votes.now) q }
+pub fn is_blocked_above(requests: &[Request; 16], votes: &[Vote; 16], q: Head) -> bool
+    ensures { result ≡ blocked_above (heads_of requests.now) votes.now q }
 {
-    let mut left = pending_in(votes);
-    while left != 0 {
-        let j = u32::trailing_zeros(left) as usize;
-        if is_above(head_from(names, bases, updates, j), q) {
-            return true;
-        }
-        left = left & (left - 1);
+    let mut blocked = false;
+    for (o, v) in requests.iter().zip(votes) {
+        blocked |= is_in_way_above(*v, head_of(o), q);
     }
-    false
+    blocked
 }
 
-// What a site makes of the request with head q whose base stamps are those of its copy, where `names`, `bases` and `updates` are the heads
-// of the table's requests and `votes` what it has said of them. Rule 5 comes before 3 and 4: who conflicts with no pending request conflicts with none of higher priority.
-pub fn weigh<'a>(
-    names: &'a [u64; 16],
-    bases: &'a [u32; 16],
-    updates: &'a [u32; 16],
-    votes: &'a [u8; 16],
-    q: Head,
-) -> Outcome
-    ensures { result ≡ weighed (heads_from names.now bases.now updates.now) (votes_from votes.now) q }
+// What a site makes of the request with head q whose base stamps are those of its copy, where `votes` is what it has said of the requests.
+// Rule 5 comes before 3 and 4: who conflicts with no pending request conflicts with none of higher priority.
+#[tactic(auto, using(crate::proofs::Considering::not_blocked_not_above))]
+pub fn weigh(requests: &[Request; 16], votes: &[Vote; 16], q: Head) -> Outcome
+    ensures { result ≡ weighed (heads_of requests.now) votes.now q }
 {
-    if !is_blocked(names, bases, updates, votes, q) {
+    if !is_blocked(requests, votes, q) {
         return Outcome::Ok;
     }
-    if is_blocked_above(names, bases, updates, votes, q) {
+    if is_blocked_above(requests, votes, q) {
         return Outcome::Dr;
     }
     Outcome::DeferPending
+}
+
+// What a site makes of the request q, where `votes` is what it has said of the requests and `held` its copy's stamps: rules 1 and 2, and then
+// the others.
+#[tactic(auto, unfolding(crate::specs::Consider::considered))]
+pub fn consider(
+    requests: &[Request; 16],
+    votes: &[Vote; 16],
+    held: &[u64; 24],
+    q: &Request,
+) -> Outcome
+    ensures { result ≡ considered (heads_of requests.now) votes.now held.now q.now }
+{
+    if is_newer(q.base, &q.stamps, held) {
+        return Outcome::Rej;
+    }
+    if is_older(q.base, &q.stamps, held) {
+        return Outcome::DeferBase;
+    }
+    weigh(requests, votes, head_of(q))
 }
 
 // The mark that an outcome leaves.
@@ -204,10 +166,9 @@ pub fn mark_of(o: Outcome) -> Mark
 {
     match o {
         Outcome::Rej => Mark::Rej,
-        Outcome::DeferBase => Mark::Deferred,
         Outcome::Dr => Mark::Dr,
-        Outcome::DeferPending => Mark::Deferred,
         Outcome::Ok => Mark::Ok,
+        Outcome::DeferBase | Outcome::DeferPending => Mark::Deferred,
     }
 }
 
@@ -215,11 +176,5 @@ pub fn mark_of(o: Outcome) -> Mark
 pub fn is_deferral(o: Outcome) -> bool
     ensures { result ≡ defers o }
 {
-    match o {
-        Outcome::Rej => false,
-        Outcome::DeferBase => true,
-        Outcome::Dr => false,
-        Outcome::DeferPending => true,
-        Outcome::Ok => false,
-    }
+    matches!(o, Outcome::DeferBase | Outcome::DeferPending)
 }

@@ -3,7 +3,6 @@
 
 pub mod consider;
 pub mod data;
-pub mod numbers;
 pub mod queue;
 pub mod requests;
 pub mod verdicts;

@@ -1,27 +1,30 @@
 // Two requests beside each other.
 ghost use Rattle.std.specs.Prelude.{◌≡◌, ◌&&◌, eqb};
 ghost use Rattle.kit.specs.Range.{implies};
-ghost use Rattle.vote.specs.Data.{blank_request, head_of, head_at, heads_from};
+ghost use Rattle.vote.specs.Data.{blank_request, head_of, request_in};
 ghost use Rattle.vote.specs.Requests.{covers, conflicts, outranks, concurrent};
 
 use crate::data::{Head, Request};
 
+const BLANK: Request = Request {
+    stamp: 0,
+    base: 0,
+    update: 0,
+    stamps: [0; 24],
+    values: [0; 24],
+};
+
 // An empty place.
+#[tactic(auto, unfolding(crate::specs::Data::blank_request))]
 pub fn blank_request() -> Request
     ensures { result ≡ blank_request }
 {
-    Request {
-        stamp: 0,
-        base: 0,
-        update: 0,
-        stamps: [0; 24],
-        values: [0; 24],
-    }
+    BLANK
 }
 
 // The head of a request.
-pub fn head_of(q: Request) -> Head
-    ensures { result ≡ head_of q }
+pub fn head_of(q: &Request) -> Head
+    ensures { result ≡ head_of q.now }
 {
     Head {
         stamp: q.stamp,
@@ -30,30 +33,8 @@ pub fn head_of(q: Request) -> Head
     }
 }
 
-// The head at place p of those with these stamps, base sets and update sets; an empty one of a place above 15.
-pub fn head_from<'a>(
-    names: &'a [u64; 16],
-    bases: &'a [u32; 16],
-    updates: &'a [u32; 16],
-    p: usize,
-) -> Head
-    ensures { result ≡ head_at (heads_from names.now bases.now updates.now) p }
-{
-    if 15 < p {
-        return Head {
-            stamp: 0,
-            base: 0,
-            update: 0,
-        };
-    }
-    Head {
-        stamp: names[p],
-        base: bases[p],
-        update: updates[p],
-    }
-}
-
 // Whether a's update set meets b's base set.
+#[tactic(auto, unfolding(crate::specs::Requests::covers))]
 pub fn is_covering(a: Head, b: Head) -> bool
     ensures { result ≡ covers a b }
 {
@@ -61,6 +42,7 @@ pub fn is_covering(a: Head, b: Head) -> bool
 }
 
 // Whether either covers the other.
+#[tactic(auto, unfolding(crate::specs::Requests::conflicts))]
 pub fn is_conflicting(a: Head, b: Head) -> bool
     ensures { result ≡ conflicts a b }
 {
@@ -78,18 +60,14 @@ pub fn is_outranking(a: Head, b: Head) -> bool
 fn agree(in_a: bool, in_b: bool, x: u64, y: u64) -> bool
     ensures { result ≡ implies (in_a && in_b) (eqb x y) }
 {
-    if in_a {
-        if in_b {
-            return x == y;
-        }
-    }
-    true
+    !(in_a && in_b) || x == y
 }
 
 // Whether each item in both base sets has equal base stamps in both.
-pub fn is_concurrent(a: Request, b: Request) -> bool
-    ensures { result ≡ concurrent a b }
+pub fn is_concurrent(a: &Request, b: &Request) -> bool
+    ensures { result ≡ concurrent a.now b.now }
 {
+    // Stays: membership is by the item's number; tried as `(0..24).all(..)`, and the last goal stayed open.
     for i in 0..24 {
         if !agree(
             sets::has(a.base, i),
@@ -101,4 +79,12 @@ pub fn is_concurrent(a: Request, b: Request) -> bool
         }
     }
     true
+}
+
+// The request at place p; an empty one at a place above 15.
+#[tactic(auto, unfolding(crate::specs::Data::request_in, crate::specs::Data::blank_request))]
+pub fn request_in(requests: &[Request; 16], p: u8) -> &Request
+    ensures { result.now ≡ request_in requests.now p }
+{
+    requests.get(usize::from(p)).unwrap_or(&BLANK)
 }

@@ -1,67 +1,88 @@
 // Verdicts at a site.
-ghost use Rattle.std.specs.Prelude.{◌≡◌, ◌+◌, ◌*◌, ◌%◌};
-ghost use Rattle.vote.specs.Verdicts.{verdict_due};
-ghost use Rattle.vote.specs.Notes.{notes_ruled};
-ghost use Rattle.vote.specs.Numbers.{verdict_number, notes_from, noted_row, ruled_row};
+ghost use Rattle.std.specs.Prelude.{◌≡◌};
+ghost use Rattle.vote.specs.Data.{vote_at};
+ghost use Rattle.vote.specs.Verdicts.{verdict_due, noted, released, ruled, stamps_written, values_written, written_site};
 
 use crate::consider::is_deferred;
-use crate::data::{Mark, Verdict};
-use crate::numbers::{said_at, verdict_number};
-use crate::queue::release;
+use crate::data::{Mark, Request, Site, Verdict};
+use crate::queue::{leave_queue, place_in_queue};
 use crate::voters::count_known;
-use crate::voting::put_mark;
+use crate::voting::{put_mark, vote_at};
 
 // The verdict that the voters known of place p call for, of n sites: Open while they are too few for either.
-pub fn verdict_due<'a>(oks: &'a [bool; 112], others: &'a [bool; 112], n: u8, p: u8) -> Verdict
-    ensures { result ≡ verdict_due n oks.now others.now p }
+#[tactic(auto, unfolding(crate::specs::Verdicts::verdict_due))]
+pub fn verdict_due(s: &Site, n: u8, p: u8) -> Verdict
+    ensures { result ≡ verdict_due n s.now.oks s.now.others p }
 {
-    if majority::to_accept(n) <= count_known(oks, p) {
+    if majority::to_accept(n) <= count_known(&s.oks, p) {
         return Verdict::Accepted;
     }
-    if majority::to_reject(n) <= count_known(others, p) {
+    if majority::to_reject(n) <= count_known(&s.others, p) {
         return Verdict::Rejected;
     }
     Verdict::Open
 }
 
-// The number of what is said, with the verdict v.
-fn number_with_verdict(c: u8, v: Verdict) -> u8
-    ensures { result ≡ c % 8 + 8 * verdict_number v }
+// The request at place p leaves the queue, where it stands there, and its mark becomes none.
+#[tactic(auto, unfolding(crate::specs::Verdicts::released, crate::specs::Voting::marked))]
+pub fn release(s: &mut Site, p: u8)
+    ensures { s.new ≡ released s.old p }
 {
-    c % 8 + 8 * verdict_number(v)
+    put_mark(&mut s.votes, p, Mark::None);
+    let i = place_in_queue(&s.queue, s.waiting, p);
+    if i < usize::from(s.waiting) {
+        leave_queue(s, i);
+    }
 }
 
-// The verdict v on the request at place p is noted, in a row of what a site has said.
-pub fn note_verdict(votes: &mut [u8], p: u8, v: Verdict)
-    ensures { votes.new ≡ noted_row votes.old p v }
+// The verdict v on the request at place p is noted; nothing changes at a place above 15.
+#[tactic(auto, unfolding(crate::specs::Verdicts::noted))]
+pub fn note_verdict(s: &mut Site, p: u8, v: Verdict)
+    ensures { s.new ≡ noted s.old p v }
 {
-    let at = kit::index(p);
-    if votes.len() <= at {
-        return;
+    let at = usize::from(p);
+    if at < 16 {
+        s.votes[at].verdict = v;
     }
-    votes[at] = number_with_verdict(votes[at], v);
 }
 
-// The request at place p gets the verdict v; a deferred one leaves the queue of `waiting` and its mark becomes none. How many wait then.
-pub fn rule<'a>(
-    votes: &'a mut [u8; 16],
-    queue: &'a mut [u8; 16],
-    waiting: u8,
-    p: u8,
-    v: Verdict,
-) -> u8
-    ensures votes { votes.new ≡ ruled_row votes.old p v }
-    ensures places { queue.new ≡ (notes_ruled (notes_from votes.old queue.old waiting) p v).queue }
-    ensures count { result ≡ (notes_ruled (notes_from votes.old queue.old waiting) p v).waiting }
-    ensures notes { notes_from votes.new queue.new result ≡ notes_ruled (notes_from votes.old queue.old waiting) p v }
+// Writes each update item of q whose copy stamp is smaller than q's. What is left of the update set gives up its lowest item at each turn.
+fn write_items(stamps: &mut [u64; 24], values: &mut [i32; 24], q: &Request)
+    ensures stamps { stamps.new ≡ stamps_written stamps.old q.now }
+    ensures values { values.new ≡ values_written stamps.old q.now values.old }
 {
-    let old = said_at(votes, p);
-    let m = old.mark;
-    if is_deferred(m) {
-        put_mark(votes, p, Mark::None);
-        note_verdict(votes, p, v);
-        return release(queue, waiting, p);
+    let mut left = q.update;
+    while left != 0 {
+        let item = left.trailing_zeros() as usize;
+        if 23 < item {
+            return;
+        }
+        if stamps[item] < q.stamp {
+            stamps[item] = q.stamp;
+            values[item] = q.values[item];
+        }
+        left &= left - 1;
     }
-    note_verdict(votes, p, v);
-    waiting
+}
+
+// Writes q into the site's copy.
+#[tactic(auto, unfolding(crate::specs::Verdicts::written_site, crate::specs::Verdicts::written_up_to, crate::specs::Verdicts::stamps_written, crate::specs::Verdicts::values_written))]
+pub fn write_request(s: &mut Site, q: &Request)
+    ensures { s.new ≡ written_site s.old q.now }
+{
+    write_items(&mut s.stamps, &mut s.values, q);
+}
+
+// The request q at place p gets the verdict v: a deferred one leaves the queue and its mark becomes none, and an accepted one is written.
+#[tactic(auto, unfolding(crate::specs::Verdicts::ruled, crate::specs::Verdicts::decided))]
+pub fn rule(s: &mut Site, q: &Request, p: u8, v: Verdict)
+    ensures { s.new ≡ ruled s.old q.now p v }
+{
+    if is_deferred(vote_at(&s.votes, p).mark) {
+        release(s, p);
+    }
+    note_verdict(s, p, v);
+    if matches!(v, Verdict::Accepted) {
+        write_request(s, q);
+    }
 }

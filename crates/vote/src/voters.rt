@@ -1,74 +1,56 @@
 // The voters that a site knows, of each request place: the only functions that see how they are kept.
-ghost use Rattle.std.specs.Prelude.{◌≡◌, not, ◌&&◌, ◌||◌};
+ghost use Rattle.std.specs.Prelude.{◌≡◌, length};
 ghost use Rattle.kit.specs.Range.{all};
-ghost use Rattle.vote.specs.Voters.{knows, voters_of, only_voter, join_voters, clear_voters, no_known, no_row, has_voter, no_voters, none_known, are_among, voters_listed, voters_in, voters_known};
+ghost use Rattle.vote.specs.Voters.{knows, voters_of, only_voter, join_voters, clear_voters, no_known, no_row, has_voter, no_voters, none_known, are_among, voters_in, voters_known};
 
 // The known voters of place p, site by site.
+#[tactic(auto, using(crate::proofs::KnownVoters::row_taken, crate::proofs::KnownVoters::row_of_none))]
 pub fn voters_of(known: &[bool; 112], p: u8) -> [bool; 7]
     ensures { result ≡ voters_of known.now p }
 {
     let mut voters = [false; 7];
-    let at = kit::index(p);
-    if 15 < at {
-        return voters;
-    }
-    for u in 0..7 {
-        voters[u] = known[7 * at + u];
+    if p < 16 {
+        let at = 7 * usize::from(p);
+        voters.copy_from_slice(&known[at..at + 7]);
     }
     voters
 }
 
 // Joins voter u of place p to the known ones; nothing changes where there is no such place or voter.
+#[tactic(auto, using(crate::proofs::KnownVoters::joined_one, crate::proofs::KnownVoters::joined_nobody))]
 pub fn join_voter(known: &mut [bool; 112], p: u8, u: u8)
     ensures { known.new ≡ join_voters known.old p (only_voter u) }
 {
-    let at = kit::index(p);
-    if 15 < at {
-        return;
+    if p < 16 && u < 7 {
+        known[7 * usize::from(p) + usize::from(u)] = true;
     }
-    let v = kit::index(u);
-    if 6 < v {
-        return;
-    }
-    known[7 * at + v] = true;
 }
 
 // Joins these voters of place p to the known ones.
-pub fn join_voters<'a, 'b>(known: &'a mut [bool; 112], p: u8, more: &'b [bool; 7])
+#[tactic(auto, using(crate::proofs::KnownVoters::joined_none, crate::proofs::KnownVoters::joined_more, crate::proofs::KnownVoters::joined_over, crate::proofs::KnownVoters::joined_out))]
+pub fn join_voters(known: &mut [bool; 112], p: u8, more: &[bool; 7])
     ensures { known.new ≡ join_voters known.old p more.now }
 {
-    let at = kit::index(p);
-    if 15 < at {
-        return;
+    if p < 16 {
+        for (u, voter) in more.iter().enumerate() {
+            known[7 * usize::from(p) + u] |= *voter;
+        }
     }
-    for u in 0..7 {
-        known[7 * at + u] = either(known[7 * at + u], more[u]);
-    }
-}
-
-fn either(a: bool, b: bool) -> bool
-    ensures { result ≡ (a || b) }
-{
-    if a {
-        return true;
-    }
-    b
 }
 
 // Forgets the known voters of place p.
+#[tactic(auto, using(crate::proofs::KnownVoters::cleared_row, crate::proofs::KnownVoters::cleared_none))]
 pub fn clear_voters(known: &mut [bool; 112], p: u8)
     ensures { known.new ≡ clear_voters known.old p }
 {
-    let at = kit::index(p);
-    if 15 < at {
-        return;
-    }
-    for u in 0..7 {
-        known[7 * at + u] = false;
+    if p < 16 {
+        let at = 7 * usize::from(p);
+        known[at..at + 7].fill(false);
     }
 }
 
 // Nothing known.
+#[tactic(auto, unfolding(crate::specs::Voters::no_known))]
 pub fn no_known() -> [bool; 112]
     ensures { result ≡ no_known }
 {
@@ -76,6 +58,7 @@ pub fn no_known() -> [bool; 112]
 }
 
 // A row with no voter.
+#[tactic(auto, unfolding(crate::specs::Voters::no_row))]
 pub fn no_voters() -> [bool; 7]
     ensures { result ≡ no_row }
 {
@@ -83,115 +66,78 @@ pub fn no_voters() -> [bool; 7]
 }
 
 // Whether voter u is in the row.
-pub fn has_voter(row: [bool; 7], u: usize) -> bool
-    ensures { result ≡ has_voter row u }
+#[tactic(auto, unfolding(crate::specs::Voters::has_voter))]
+pub fn has_voter(row: &[bool; 7], u: usize) -> bool
+    ensures { result ≡ has_voter row.now u }
 {
-    if 6 < u {
-        return false;
-    }
-    row[u]
+    u < 7 && row[u]
 }
 
 // Whether no voter is in the row.
-pub fn is_no_voter(row: [bool; 7]) -> bool
-    ensures { result ≡ no_voters row }
+#[tactic(auto, using(crate::proofs::Rows::row_searched))]
+pub fn is_no_voter(row: &[bool; 7]) -> bool
+    ensures { result ≡ no_voters row.now }
 {
-    for u in 0..7 {
-        if has_voter(row, u) {
-            return false;
-        }
-    }
-    true
+    !row.contains(&true)
 }
 
 // Whether no voter of place p is known.
+#[tactic(auto, unfolding(crate::specs::Voters::none_known))]
 pub fn is_none_known(known: &[bool; 112], p: u8) -> bool
     ensures { result ≡ none_known known.now p }
 {
-    is_no_voter(voters_of(known, p))
+    is_no_voter(&voters_of(known, p))
 }
 
-// The voters of a row as a list of site numbers, and how many they are.
-#[derive(Clone, Copy)]
-pub struct Listed {
-    pub sites: [u8; 7],
-    pub count: u8,
-}
-
-pub fn list_voters(row: [bool; 7]) -> Listed
-    ensures { result ≡ voters_listed row }
+// How many voters stand in these seven places. Each is added as 0 or 1.
+// Stays: a sum by a loop: `filter` and `count` take a branch a voter, 10.0 s against 5.8 s for the same votes.
+fn count_in(row: &[bool]) -> u8
+    requires { length row.now ≡ 7 }
+    ensures { result ≡ voters_in row.now }
 {
-    let mut sites = [0u8; 7];
-    let mut count: usize = 0;
-    for u in 0..7 {
-        if has_voter(row, u) {
-            sites[count] = u as u8;
-            count += 1;
-        }
+    let mut count = 0;
+    for voter in row {
+        count += u8::from(*voter);
     }
-    Listed {
-        sites,
-        count: count as u8,
-    }
+    count
 }
 
 // How many voters are in the row.
-pub fn count_voters(row: [bool; 7]) -> u8
-    ensures { result ≡ voters_in row }
+pub fn count_voters(row: &[bool; 7]) -> u8
+    ensures { result ≡ voters_in row.now }
 {
-    let l = list_voters(row);
-    l.count
-}
-
-// How many voters of place p are known.
-pub fn count_known(known: &[bool; 112], p: u8) -> u8
-    ensures { result ≡ voters_known known.now p }
-{
-    count_voters(voters_of(known, p))
-}
-
-// Whether voter u of place p is known, with no row made of them.
-pub fn is_known(known: &[bool; 112], p: u8, u: usize) -> bool
-    ensures { result ≡ knows known.now p u }
-{
-    let at = kit::index(p);
-    if 15 < at {
-        return false;
-    }
-    if 6 < u {
-        return false;
-    }
-    known[7 * at + u]
-}
-
-// Whether a is without b.
-fn is_without(a: bool, b: bool) -> bool
-    ensures { result ≡ (a && not b) }
-{
-    if a {
-        return !b;
-    }
-    false
-}
-
-// Whether each voter known in a, of any place, is known in b. No turn leaves the loop, so that the tests can be made side by side.
-pub fn are_known_among<'a, 'b>(a: &'a [bool; 112], b: &'b [bool; 112]) -> bool
-    ensures { result ≡ all 16 (λ p. are_among (voters_of a.now p) (voters_of b.now p)) }
-{
-    let mut strange = false;
-    for i in 0..112 {
-        strange = either(strange, is_without(a[i], b[i]));
-    }
-    !strange
+    count_in(row)
 }
 
 // How many voters of place p are known, counted where they stand.
-pub fn count_at(known: &[bool; 112], p: u8) -> u8
+#[tactic(auto, using(crate::proofs::KnownVoters::counted_at, crate::proofs::KnownVoters::counted_nowhere))]
+pub fn count_known(known: &[bool; 112], p: u8) -> u8
     ensures { result ≡ voters_known known.now p }
 {
-    let mut count: u32 = 0;
-    for u in 0..7 {
-        count = count + kit::one_if(is_known(known, p, u));
+    if p < 16 {
+        let at = 7 * usize::from(p);
+        return count_in(&known[at..at + 7]);
     }
-    count as u8
+    0
+}
+
+// Whether voter u of place p is known.
+#[tactic(auto, unfolding(crate::specs::Voters::knows))]
+pub fn is_known(known: &[bool; 112], p: u8, u: usize) -> bool
+    ensures { result ≡ knows known.now p u }
+{
+    p < 16 && u < 7 && known[7 * usize::from(p) + u]
+}
+
+// Whether each voter known in a, of any place, is known in b.
+// Stays: a loop that no turn leaves, so that the tests are made side by side; `all` leaves at the first and is slower.
+#[tactic(auto, using(crate::proofs::KnownVoters::strange_none, crate::proofs::KnownVoters::strange_over))]
+pub fn are_known_among(a: &[bool; 112], b: &[bool; 112]) -> bool
+    ensures { result ≡ all 16 (λ p. are_among (voters_of a.now p) (voters_of b.now p)) }
+{
+    let mut strange = false;
+    for (known, marked) in a.iter().zip(b) {
+        strange |= *known & !*marked;
+    }
+    !strange
 }

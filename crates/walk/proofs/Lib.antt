@@ -1,10 +1,5 @@
 -- Laws of the walk, each family in a file of its own.
-pub mod Elements
-mod Stored
-mod WrittenItems
-pub mod TakenApart
 mod Turns
-mod Hearings
 pub mod Walks
 pub mod Inductions
 pub mod HearingInductions

@@ -1,8 +1,6 @@
 -- "After each verdict at a site, its queue is considered again from the front. One that votes leaves the queue; one still deferred keeps its
 -- place; if a vote brings a verdict, the walk starts again from the front, so a verdict calls for a walk and a walk may bring a verdict."
-use Rattle.std.specs.Prelude.{ℕ, zero, suc, ◌+◌, ◌-◌, Bool, true, false, List, [], ◌∷◌, ℤ}
-use Rattle.vote.specs.Notes.{site_of}
-use Rattle.vote.specs.Numbers.{notes_from}
+use Rattle.std.specs.Prelude.{ℕ, zero, suc, ◌+◌, ◌-◌, true, false, List, [], ◌∷◌}
 use Rattle.vote.specs.Consider.{considered, mark_of, defers}
 use Rattle.vote.specs.Data.{heads_of, is_open, request_in}
 use Rattle.vote.specs.Queue.{queued_at}
@@ -14,7 +12,7 @@ use Rattle.vote.specs.declared.data.Request.{Request}
 use Rattle.vote.specs.declared.data.Site.{Site}
 use Rattle.vote.specs.declared.data.Verdict.{Verdict}
 use Rattle.vote.specs.declared.data.Verdict.TheVariants as verdict
-use Rattle.walk.specs.declared.walking.Settled as code
+use Rattle.walk.specs.declared.walking.Settled.{Settled}
 
 -- what a site said: the request's place, its stamp, and the vote or the verdict
 pub data Said : Type 0 where
@@ -115,17 +113,6 @@ rejects [] = 0
 rejects (vote p t m ∷ l) = rejects l
 rejects (rule p t d ∷ l) = rejects l + rejects_of d
 
--- a site, and the two counts
-pub record Settled : Type 0 where
-  pub site : Site
-  pub accepted : ℕ
-  pub rejected : ℕ
-
--- those of a walk
-abbrev pub answer_of : Out → Settled
-answer_of o = record { site = o.site; accepted = accepts o.log; rejected = rejects o.log }
-
--- those that the code leaves: the site put together of what is lent
-abbrev pub left : Bool → ℕ → code.Settled → List ℕ → List ℤ → List ℕ → List ℕ → List Bool → List Bool → Settled
-left up last r stamps values votes queue oks others =
-    record { site = site_of up last stamps values (notes_from votes queue r.waiting) oks others; accepted = r.accepted; rejected = r.rejected }
+-- both
+abbrev pub counts_of : List Said → Settled
+counts_of l = record { accepted = accepts l; rejected = rejects l }

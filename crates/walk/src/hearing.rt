@@ -1,108 +1,67 @@
-// What a site does with a request that it begins or hears of. The site comes in its parts, as in walking.rt.
-ghost use Rattle.std.specs.Prelude.{Bool, ◌≡◌, ℕ};
-ghost use Rattle.vote.specs.Data.{heads_from};
-ghost use Rattle.vote.specs.Notes.{site_of};
-ghost use Rattle.vote.specs.Numbers.{notes_from};
+// What a site does with a request that it begins or hears of.
+ghost use Rattle.std.specs.Prelude.{◌≡◌};
 ghost use Rattle.walk.specs.Hearing.{taken_up, received};
-ghost use Rattle.walk.specs.Walking.{answer_of, left};
-ghost use Rattle.walk.specs.Parts.{requests_from};
+ghost use Rattle.walk.specs.Walking.{counts_of};
 
-use crate::considering::consider_at;
 use crate::walking::{Settled, resolve, rest};
-use vote::consider::{is_deferral, is_open, is_unmarked, mark_of};
-use vote::data::Verdict;
-use vote::numbers::said_at;
+use vote::consider::{consider, is_deferral, is_open, is_unmarked, mark_of};
+use vote::data::{Request, Site, Verdict};
+use vote::requests::request_in;
 use vote::verdicts::verdict_due;
 use vote::voters::join_voters;
-use vote::voting::{cast_vote, defer};
+use vote::voting::{cast_vote, defer, vote_at};
 
 // Site `me` of n considers the request at place p: it is deferred, or voted on, which counts at once and may bring a verdict.
-pub fn take_up<'a>(
-    names: &'a [u64; 16],
-    bases: &'a [u32; 16],
-    updates: &'a [u32; 16],
-    based: &'a [u64; 384],
-    news: &'a [i32; 384],
-    votes: &mut [u8; 16],
-    queue: &mut [u8; 16],
-    waiting: u8,
-    stamps: &mut [u64; 24],
-    values: &mut [i32; 24],
-    oks: &mut [bool; 112],
-    others: &mut [bool; 112],
-    n: u8,
-    me: u8,
-    p: u8,
-) -> Settled
-    ensures { (up : Bool) (last : ℕ) → left up last result stamps.new values.new votes.new queue.new oks.new others.new
-        ≡ answer_of (taken_up me n (requests_from (heads_from names.now bases.now updates.now) based.now news.now) (site_of up last stamps.old values.old (notes_from votes.old queue.old waiting) oks.old others.old) p) }
+#[tactic(auto, unfolding(crate::specs::Hearing::taken_up, crate::specs::Hearing::settled, crate::specs::Walking::accepts, crate::specs::Walking::rejects))]
+pub fn take_up(requests: &[Request; 16], s: &mut Site, n: u8, me: u8, p: u8) -> Settled
+    ensures site { s.new ≡ (taken_up me n requests.now s.old p).site }
+    ensures counts { result ≡ counts_of (taken_up me n requests.now s.old p).log }
 {
-    let o = consider_at(names, bases, updates, votes, stamps, based, p);
+    let o = consider(requests, &s.votes, &s.stamps, request_in(requests, p));
     if is_deferral(o) {
-        return rest(defer(votes, queue, waiting, p));
+        defer(s, p);
+        return rest();
     }
-    cast_vote(votes, oks, others, me, p, mark_of(o));
-    let v = verdict_due(oks, others, n, p);
+    cast_vote(s, me, p, mark_of(o));
+    let v = verdict_due(s, n, p);
     if is_open(v) {
-        return rest(waiting);
+        return rest();
     }
-    resolve(
-        names, bases, updates, based, news, votes, queue, waiting, stamps, values, oks, others, n,
-        me, p, v,
-    )
+    resolve(requests, s, n, me, p, v)
 }
 
 // A message of the request at place p comes to site `me` of n: a verdict held there already keeps all as it is, one that is sent is taken
 // over; else the voters are joined, and a request not marked yet is considered.
-pub fn receive<'a>(
-    names: &'a [u64; 16],
-    bases: &'a [u32; 16],
-    updates: &'a [u32; 16],
-    based: &'a [u64; 384],
-    news: &'a [i32; 384],
-    votes: &mut [u8; 16],
-    queue: &mut [u8; 16],
-    waiting: u8,
-    stamps: &mut [u64; 24],
-    values: &mut [i32; 24],
-    oks: &mut [bool; 112],
-    others: &mut [bool; 112],
+#[tactic(auto, unfolding(crate::specs::Hearing::received, crate::specs::Hearing::heard, crate::specs::Walking::accepts, crate::specs::Walking::rejects))]
+// Stays: the parts of a message one by one: the message is the table's, a crate above, and a struct of these alone would be one more name for it.
+pub fn receive(
+    requests: &[Request; 16],
+    s: &mut Site,
     n: u8,
     me: u8,
     p: u8,
     sent: Verdict,
-    more_oks: &'a [bool; 7],
-    more_others: &'a [bool; 7],
+    more_oks: &[bool; 7],
+    more_others: &[bool; 7],
 ) -> Settled
-    ensures { (up : Bool) (last : ℕ) → left up last result stamps.new values.new votes.new queue.new oks.new others.new
-        ≡ answer_of (received me n (requests_from (heads_from names.now bases.now updates.now) based.now news.now) (site_of up last stamps.old values.old (notes_from votes.old queue.old waiting) oks.old others.old) p sent more_oks.now more_others.now) }
+    ensures site { s.new ≡ (received me n requests.now s.old p sent more_oks.now more_others.now).site }
+    ensures counts { result ≡ counts_of (received me n requests.now s.old p sent more_oks.now more_others.now).log }
 {
-    let old = said_at(votes, p);
-    let held = old.verdict;
-    if !is_open(held) {
-        return rest(waiting);
+    let old = vote_at(&s.votes, p);
+    if !is_open(old.verdict) {
+        return rest();
     }
     if !is_open(sent) {
-        return resolve(
-            names, bases, updates, based, news, votes, queue, waiting, stamps, values, oks, others,
-            n, me, p, sent,
-        );
+        return resolve(requests, s, n, me, p, sent);
     }
-    join_voters(oks, p, more_oks);
-    join_voters(others, p, more_others);
-    let v = verdict_due(oks, others, n, p);
+    join_voters(&mut s.oks, p, more_oks);
+    join_voters(&mut s.others, p, more_others);
+    let v = verdict_due(s, n, p);
     if !is_open(v) {
-        return resolve(
-            names, bases, updates, based, news, votes, queue, waiting, stamps, values, oks, others,
-            n, me, p, v,
-        );
+        return resolve(requests, s, n, me, p, v);
     }
-    let mark = old.mark;
-    if !is_unmarked(mark) {
-        return rest(waiting);
+    if !is_unmarked(old.mark) {
+        return rest();
     }
-    take_up(
-        names, bases, updates, based, news, votes, queue, waiting, stamps, values, oks, others, n,
-        me, p,
-    )
+    take_up(requests, s, n, me, p)
 }

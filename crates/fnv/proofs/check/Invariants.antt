@@ -1,12 +1,8 @@
--- `fnv::check` meets its contract. The loop's invariant: from the check so far, the bytes left give the check of all.
+-- `fnv::check`: from the check so far, the bytes left give the check of all.
 use mathlib.Core.Path.{◌≡◌}
-use Prim.Native.Nat.{◌≤◌, ◌-◌}
-use lib.ListN.{length, drop}
+use lib.ListN.{drop}
 use Rattle.fnv.specs.Fnv.{fnv_from, fnv_of}
 use Rattle.fnv.proofs.check.Given as goal
 
-abbrev pub invariant-loop-i : goal.invariant-loop-i
-invariant-loop-i l = (l.i ≤ length l.s) × (fnv_from l.h (drop l.i l.s) ≡ fnv_of l.s)
-
-abbrev pub decreases-loop-i : goal.decreases-loop-i
-decreases-loop-i l = length l.s - l.i
+abbrev pub invariant-loop-b : goal.invariant-loop-b
+invariant-loop-b l = fnv_from l.h (drop l.b-index l.s) ≡ fnv_of l.s

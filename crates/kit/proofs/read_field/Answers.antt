@@ -2,8 +2,7 @@
 use mathlib.Core.Path.{sym, ◌∙◌, subst}
 use Prim.Native.Nat.{ℕ, ◌+◌, ◌-◌, ◌^◌, ◌<◌}
 use native.Mathlib.Omega.{arith}
-use borrow.Author.Rules.{rules}
-use Rattle.kit.proofs.Fields.{field_in, field_long, field_out, ends_in, ends_out, read_start, read_turn, read_end, le_lt_at, room}
+use Rattle.kit.proofs.Fields.{field_in, ends_in, read_start, read_turn, read_end, le_lt_at, room}
 use Rattle.kit.proofs.read_field.Goals as goal
 use Rattle.kit.proofs.read_field.Goals.{In-loop-k}
 
@@ -13,17 +12,11 @@ small c =
     let l = c.loop-k in
     let a = c.args in
     room (a.n - l.k) l.v (omega arith)
-    (subst (λ (x : ℕ). x < 256 ^ (a.n - l.k)) (sym l.invariant.1)
-    (le_lt_at (a.n - l.k) (a.at + l.k) a.s.now (λ i. (c.shared_slice_known-1.given i).fits)))
-
-pub returns-then-n-gt8 : goal.returns-then-n-gt8
-returns-then-n-gt8 c = search field_long
-
-pub returns-then-not-ends_inside : goal.returns-then-not-ends_inside
-returns-then-not-ends_inside c = search (field_out, ends_out, arith)
+    (subst (λ (x : ℕ). x < 256 ^ (a.n - l.k)) (sym l.invariant.0)
+    (le_lt_at (a.n - l.k) (a.at + l.k) a.s.now (λ i. (c.type_inv.s i).fits)))
 
 pub loop-k-init : goal.loop-k-init
-loop-k-init c = (search rules, read_start _ _, search rules, search ends_in)
+loop-k-init c = (read_start _ _, c.if-n-gt8.false, search ends_in)
 
 pub overflow_mul-v : goal.overflow_mul-v
 overflow_mul-v c = omega (arith, small c)
@@ -31,13 +24,13 @@ overflow_mul-v c = omega (arith, small c)
 pub overflow_add-v : goal.overflow_add-v
 overflow_add-v c = let l = c.loop-k in
     let a = c.args in
-    omega (arith, small (goal.at.overflow_add-v c).In-loop-k, c.wide.ensures, c.shared_slice_known-in-loop-k-1.given (a.at + (l.k - 1)))
+    omega (arith, small (goal.at.overflow_add-v c).In-loop-k, c.type_inv.s (a.at + (l.k - 1)), c.from.ensures)
 
 pub loop-k-preserved : goal.loop-k-preserved
 loop-k-preserved c = let l = c.loop-k in
-    (search rules, read_turn _ _ _ _ _ _ c.loop-k-test.true l.invariant.0 l.invariant.1 c.wide.ensures, l.invariant.2, l.invariant.3)
+    (search read_turn, l.invariant.1, l.invariant.2)
 
 pub returns : goal.returns
 returns c = let l = c.loop-k in
     let a = c.args in
-    read_end a.s.now a.at a.n l.k l.v c.loop-k-test.false l.invariant.1 ∙ sym (field_in a.s.now a.at a.n l.invariant.2 l.invariant.3)
+    read_end a.s.now a.at a.n l.k l.v c.loop-k-test.false l.invariant.0 ∙ sym (field_in a.s.now a.at a.n l.invariant.1 l.invariant.2)

@@ -6,7 +6,4 @@ use Rattle.kit.specs.Bytes.{le}
 use Rattle.kit.proofs.read_field.Given as goal
 
 abbrev pub invariant-loop-k : goal.invariant-loop-k
-invariant-loop-k l = (l.k ≤ l.n) × (l.v ≡ le (l.n - l.k) (drop (l.at + l.k) l.s)) × (l.n ≤ 8) × (l.at + l.n ≤ length l.s)
-
-abbrev pub decreases-loop-k : goal.decreases-loop-k
-decreases-loop-k l = l.k
+invariant-loop-k l = (l.v ≡ le (l.n - l.k) (drop (l.at + l.k) l.s)) × (l.n ≤ 8) × (l.at + l.n ≤ length l.s)

@@ -9,10 +9,10 @@ pub write_number-p-requires : goal.write_number-p-requires
 write_number-p-requires c = search first_inside
 
 pub write_number-q-requires : goal.write_number-q-requires
-write_number-q-requires c = search second_inside
+write_number-q-requires c = rw c.from.ensures (search second_inside)
 
-pub write_four_zeros-end-requires : goal.write_four_zeros-end-requires
-write_four_zeros-end-requires c = search zeros_inside
+pub write_bytes-end-requires : goal.write_bytes-end-requires
+write_bytes-end-requires c = let v = rw c.from.ensures at c.write_number-q.ensures in search (zeros_inside, c.write_number-p.ensures, v)
 
 pub returns : goal.returns
-returns c = record { answer = search done_answer; bytes = search done_bytes }
+returns c = let v = rw c.from.ensures at c.write_number-q.ensures in record { answer = search (done_answer, c.write_number-p.ensures, v, c.write_bytes-end.ensures); bytes = search (done_bytes, c.write_number-p.ensures, v, c.write_bytes-end.ensures) }

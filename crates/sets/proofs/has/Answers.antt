@@ -1,12 +1,8 @@
--- `sets::has` meets its contract: the digit of an item, and no item above 31 is in a word.
-use mathlib.Core.Path.{refl, sym}
-use Rattle.sets.specs.Sets.{member}
+-- `sets::has` meets its contract: no item above 31 is in a word.
+use mathlib.Core.Path.{sym, ◌∙◌}
+use borrow.Author.Tests.{le-ltb}
 use Rattle.sets.proofs.Laws.{above}
 use Rattle.sets.proofs.has.Goals as goal
 
-pub returns-then-i-gt31 : goal.returns-then-i-gt31
-returns-then-i-gt31 c = sym (above 32 c.args.s c.args.i c.ranges.s.fits c.if-i-gt31.true)
-
-pub returns : goal.returns
-unfolding member
-returns c = refl
+pub returns-else-i-lt32 : goal.returns-else-i-lt32
+returns-else-i-lt32 c = le-ltb c.args.i 32 c.if-i-lt32.false ∙ sym (above 32 c.args.s c.args.i c.ranges.s.fits c.if-i-lt32.false)

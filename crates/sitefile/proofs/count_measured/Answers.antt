@@ -1,25 +1,16 @@
--- `sitefile::count_measured` meets its contract: n of the items before the i-th were measured.
-use Prim.Native.Nat.{◌<◌}
-use native.Mathlib.Omega.{arith}
-use Rattle.kit.proofs.Loops.{counted_fits, counts}
+-- `sitefile::count_measured` meets its contract: a chain over the stamps.
+use Rattle.std.proofs.Common.{rules, ◌≡◌, ◌∙◌, ℕ, length, eqb, not, ap}
+use Rattle.std.specs.List.{count_by}
+use Rattle.std.proofs.iter.runs.Made.{chains}
+use Rattle.kit.specs.Range.{number}
 use Rattle.sitefile.specs.Entries.{measured}
+use Rattle.sitefile.proofs.Chains.{count_is}
 use Rattle.sitefile.proofs.count_measured.Goals as goal
 
-pub loop-i-init : goal.loop-i-init
-loop-i-init c = search counts
-
-pub overflow_add-n : goal.overflow_add-n
-overflow_add-n c = let few : 24 < 4294967296 = omega arith in search counted_fits
-
-pub overflow_step-i : goal.overflow_step-i
-overflow_step-i c = search counts
-
-pub loop-i-smaller : goal.loop-i-smaller
-loop-i-smaller c = search counts
-
-pub loop-i-preserved : goal.loop-i-preserved
+pub returns-clause-count : goal.returns-clause-count
 unfolding measured
-loop-i-preserved c = search counts
-
-pub returns : goal.returns
-returns c = search counts
+returns-clause-count c =
+    let s = c.args.stamps.now in
+    let e : c.count.result ≡ count_by (λ x. not (eqb x 0)) s = search (rules, chains) in
+    let l : length s ≡ 24 = search rules in
+    e ∙ count_is (λ x. not (eqb x 0)) 0 s ∙ ap (λ (n : ℕ). number n (measured s)) l

@@ -1,24 +1,14 @@
--- `sitefile::has_wrong_entry` meets its contract: no entry before the k-th was wrong.
-use Rattle.kit.proofs.Loops.{somes}
+-- `sitefile::has_wrong_entry` meets its contract: a chain over the numbers below n.
+use Rattle.std.proofs.Common.{rules, arith, ◌∙◌, refl}
+use Rattle.std.proofs.lemmas.Iterator.Search.{any_from_yields_List}
+use Rattle.std.proofs.lemmas.Iterator.{YieldsList-from_range}
+use Rattle.sitefile.specs.Frame.{entry_at}
+use Rattle.sitefile.specs.Entries.{rate_form}
+use Rattle.sitefile.specs.Read.{wrong_entry}
+use Rattle.sitefile.proofs.Chains.{any_below}
 use Rattle.sitefile.proofs.has_wrong_entry.Goals as goal
 
-pub loop-k-init : goal.loop-k-init
-loop-k-init c = search somes
-
-pub is_wrong_entry-requires : goal.is_wrong_entry-requires
-is_wrong_entry-requires c = tt
-
-pub returns-then-is_wrong_entry : goal.returns-then-is_wrong_entry
-returns-then-is_wrong_entry c = search somes
-
-pub overflow_step-k : goal.overflow_step-k
-overflow_step-k c = search somes
-
-pub loop-k-smaller : goal.loop-k-smaller
-loop-k-smaller c = search somes
-
-pub loop-k-preserved : goal.loop-k-preserved
-loop-k-preserved c = search somes
-
 pub returns : goal.returns
-returns c = search somes
+returns c =
+    let p = wrong_entry (entry_at rate_form c.args.b.now) in
+    any_from_yields_List p _ _ _ c.any.ensures.ran (YieldsList-from_range 0 c.args.n c.args.n refl (omega arith)) (λ x b q e. search rules) ∙ any_below c.args.n p

@@ -5,20 +5,8 @@ use Rattle.plans.proofs.retire.is_open_somewhere.Goals as goal
 pub loop-k-init : goal.loop-k-init
 loop-k-init c = search somes
 
-pub offset_bounds-votes-k : goal.offset_bounds-votes-k
-offset_bounds-votes-k c = search somes
-
-pub bounds-votes-k : goal.bounds-votes-k
-bounds-votes-k c = search somes
-
 pub returns-then-is_open_at : goal.returns-then-is_open_at
 returns-then-is_open_at c = search somes
-
-pub overflow_step-k : goal.overflow_step-k
-overflow_step-k c = search somes
-
-pub loop-k-smaller : goal.loop-k-smaller
-loop-k-smaller c = search somes
 
 pub loop-k-preserved : goal.loop-k-preserved
 loop-k-preserved c = search somes

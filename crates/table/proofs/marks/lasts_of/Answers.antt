@@ -1,34 +1,14 @@
--- `table::marks::lasts_of` meets its contract: an array filled from the front.
-use native.Mathlib.Omega.{arith}
+-- `table::marks::lasts_of` meets its contract: what is made of each place.
 use borrow.Author.Rules.{rules}
-use Rattle.kit.proofs.Listings.{filled_start, filled_put, filled_end}
+use lib.ListN.{get_or}
+use Rattle.std.proofs.Common.{of_calls}
+use Rattle.kit.proofs.Iterated.{listed_by}
+use Rattle.table.specs.Places.{no_site}
 use Rattle.table.specs.Parts.{lasts_of}
 use Rattle.table.proofs.marks.lasts_of.Goals as goal
 
-pub loop-k-init : goal.loop-k-init
-unfolding lasts_of
-loop-k-init c = search (filled_start, arith)
-
-pub offset_bounds-sites-k : goal.offset_bounds-sites-k
-unfolding lasts_of
-offset_bounds-sites-k c = search rules
-
-pub offset_bounds-lasts-k : goal.offset_bounds-lasts-k
-unfolding lasts_of
-offset_bounds-lasts-k c = search rules
-
-pub overflow_step-k : goal.overflow_step-k
-unfolding lasts_of
-overflow_step-k c = search rules
-
-pub loop-k-smaller : goal.loop-k-smaller
-unfolding lasts_of
-loop-k-smaller c = search rules
-
-pub loop-k-preserved : goal.loop-k-preserved
-unfolding lasts_of
-loop-k-preserved c = search (filled_put, arith)
-
 pub returns : goal.returns
 unfolding lasts_of
-returns c = search (filled_end, arith)
+returns c =
+    let made = c.from_fn.ensures.items in
+    listed_by c.from_fn.result 7 (λ k. (get_or c.args.sites.now k no_site).last) 0 made.long (λ i h. let x = made.at i 0 h in search (of_calls, rules))

@@ -1,11 +1,13 @@
--- `table::marks::marked_of` meets its contract: after k turns the marks of the first k sites are put in.
-use Prim.Native.Nat.{◌-◌, ◌≤◌}
+-- `table::marks::marked_of` meets its contract: one pass over the marks.
+use mathlib.Core.Path.{◌≡◌}
+use mathlib.Core.Bool.{false}
+use Prim.Native.Nat.{ℕ, ◌<◌}
+use lib.ListN.{length, get_or}
 use Rattle.vote.specs.Data.{is_ok_vote, is_other}
-use Rattle.table.proofs.Putting.{Gathered}
+use Rattle.vote.specs.declared.data.Mark.TheVariants as mark
 use Rattle.table.proofs.marks.marked_of.Given as goal
 
-abbrev pub invariant-loop-k : goal.invariant-loop-k
-invariant-loop-k l = (l.k ≤ 7) × (Gathered is_ok_vote l.ballots l.k l.oks × Gathered is_other l.ballots l.k l.others)
-
-abbrev pub decreases-loop-k : goal.decreases-loop-k
-decreases-loop-k l = 7 - l.k
+abbrev pub invariant-loop-i : goal.invariant-loop-i
+invariant-loop-i l =
+    (length l.oks ≡ 112) × (length l.others ≡ 112)
+    × ((k : ℕ) → k < l.i → (get_or l.oks k false ≡ is_ok_vote (get_or l.mark-items k mark.None)) × (get_or l.others k false ≡ is_other (get_or l.mark-items k mark.None)))

@@ -1,24 +1,13 @@
--- `table::parts::are_places` meets its contract: a loop that returns at the first that fails computes `all`.
-use Rattle.kit.proofs.Loops.{alls}
+-- `table::parts::are_places` meets its contract.
+use mathlib.Core.Path.{refl, ◌∙◌}
+use lib.Dec.{ltb}
+use Rattle.std.proofs.Common.{rules, tests}
+use Rattle.std.proofs.lemmas.Iterator.Search.{all_from_yields_List}
+use Rattle.std.proofs.lemmas.Iterator.{YieldsList-from_slice}
+use Rattle.kit.proofs.Iterated.{all_elements}
 use Rattle.table.proofs.parts.are_places.Goals as goal
 
-pub loop-i-init : goal.loop-i-init
-loop-i-init c = search alls
-
-pub bounds-queue-i : goal.bounds-queue-i
-bounds-queue-i c = search alls
-
-pub returns-then-not-is_place : goal.returns-then-not-is_place
-returns-then-not-is_place c = search alls
-
-pub overflow_step-i : goal.overflow_step-i
-overflow_step-i c = search alls
-
-pub loop-i-smaller : goal.loop-i-smaller
-loop-i-smaller c = search alls
-
-pub loop-i-preserved : goal.loop-i-preserved
-loop-i-preserved c = search alls
-
 pub returns : goal.returns
-returns c = search alls
+returns c =
+    all_from_yields_List (λ x. ltb x 16) _ _ c.all.result c.all.ensures.ran (YieldsList-from_slice c.args.queue.now cc) (λ x b q k. search (rules, tests))
+    ∙ all_elements (λ x. ltb x 16) c.args.queue.now 0 refl

@@ -1,30 +1,16 @@
--- `table::parts::are_queued_right` meets its contract: a loop that returns at the first that fails computes `all`.
-use Rattle.kit.proofs.Loops.{alls}
+-- `table::parts::are_queued_right` meets its contract.
+use mathlib.Core.Path.{◌∙◌}
+use lib.Dec.{eqb}
+use Rattle.std.proofs.Common.{rules, tests}
+use Rattle.std.proofs.lemmas.Iterator.Search.{all_from_yields_List}
+use Rattle.std.proofs.lemmas.Iterator.{YieldsList-from_slice, YieldsList-from_zip}
+use Rattle.kit.specs.Range.{one}
+use Rattle.kit.proofs.Iterated.{all_pairs}
+use Rattle.vote.specs.Data.{is_deferred, no_vote}
 use Rattle.table.proofs.parts.are_queued_right.Goals as goal
 
-pub loop-p-init : goal.loop-p-init
-loop-p-init c = search alls
-
-pub bounds-times-p : goal.bounds-times-p
-bounds-times-p c = search alls
-
-pub offset_bounds-votes-p : goal.offset_bounds-votes-p
-offset_bounds-votes-p c = search alls
-
-pub bounds-votes-p : goal.bounds-votes-p
-bounds-votes-p c = search alls
-
-pub returns-then-not-is_queued_right : goal.returns-then-not-is_queued_right
-returns-then-not-is_queued_right c = search alls
-
-pub overflow_step-p : goal.overflow_step-p
-overflow_step-p c = search alls
-
-pub loop-p-smaller : goal.loop-p-smaller
-loop-p-smaller c = search alls
-
-pub loop-p-preserved : goal.loop-p-preserved
-loop-p-preserved c = search alls
-
 pub returns : goal.returns
-returns c = search alls
+returns c =
+    all_from_yields_List (λ x. eqb x.0 (one (is_deferred x.1.mark))) c.all.new.self _ c.all.result c.all.ensures.ran
+    (YieldsList-from_zip (YieldsList-from_slice c.args.times.now cc) (YieldsList-from_slice c.args.votes.now cc)) (λ x b q k. search (rules, tests))
+    ∙ all_pairs (λ x. eqb x.0 (one (is_deferred x.1.mark))) c.args.times.now c.args.votes.now 0 no_vote 16 c.told-times c.told-votes

@@ -2,16 +2,17 @@
 use native.Mathlib.Omega.{arith}
 use Rattle.table.proofs.Marked.{tallied_none, tallied_few, tallied_more, tallied_skip, tallied_over}
 use Rattle.table.proofs.parts.times_queued.Goals as goal
-use Rattle.table.proofs.parts.times_queued.Goals.{then-p-lt16, else-p-lt16}
+use Rattle.table.proofs.parts.times_queued.Goals.{then-place-lt16, else-place-lt16}
 
-pub loop-i-init : goal.loop-i-init
-loop-i-init c = search (tallied_none, arith)
+pub loop-place-init : goal.loop-place-init
+loop-place-init c = tallied_none
 
 pub overflow_add-times : goal.overflow_add-times
-overflow_add-times c = omega (arith, tallied_few c.loop-i.invariant.1 c.if-p-lt16.true)
+overflow_add-times c = rw c.from.ensures (omega (arith, tallied_few c.loop-place.invariant c.if-place-lt16.true))
 
-pub loop-i-preserved : goal.loop-i-preserved
-loop-i-preserved c = elim c.if-p-lt16.branch [ then-p-lt16 w ↦ rw w.times-is (search (tallied_more, arith)) | else-p-lt16 w ↦ rw w.times-is (search (tallied_skip, arith)) ]
+pub loop-place-preserved : goal.loop-place-preserved
+loop-place-preserved c =
+    elim c.if-place-lt16.branch [ then-place-lt16 w ↦ rw (w.times-is, w.from.ensures) (search (tallied_more, arith)) | else-place-lt16 w ↦ rw w.times-is (search (tallied_skip, arith)) ]
 
 pub returns : goal.returns
-returns c = tallied_over c.loop-i.invariant.1 c.loop-i.invariant.0 (omega arith)
+returns c = tallied_over c.loop-place.invariant c.loop-place.auto.place-index-end c.loop-place-test.false

@@ -1,34 +1,13 @@
--- `table::sound::stamps_of` meets its contract: an array filled from the front.
-use native.Mathlib.Omega.{arith}
+-- `table::sound::stamps_of` meets its contract: what is made of each place.
 use borrow.Author.Rules.{rules}
-use Rattle.kit.proofs.Listings.{filled_start, filled_put, filled_end}
+use Rattle.std.proofs.Common.{of_calls}
+use Rattle.kit.proofs.Iterated.{listed_by}
+use Rattle.vote.specs.Data.{request_at}
 use Rattle.table.specs.Parts.{stamps_of}
 use Rattle.table.proofs.sound.stamps_of.Goals as goal
 
-pub loop-p-init : goal.loop-p-init
-unfolding stamps_of
-loop-p-init c = search (filled_start, arith)
-
-pub offset_bounds-rs-p : goal.offset_bounds-rs-p
-unfolding stamps_of
-offset_bounds-rs-p c = search rules
-
-pub offset_bounds-stamps-p : goal.offset_bounds-stamps-p
-unfolding stamps_of
-offset_bounds-stamps-p c = search rules
-
-pub overflow_step-p : goal.overflow_step-p
-unfolding stamps_of
-overflow_step-p c = search rules
-
-pub loop-p-smaller : goal.loop-p-smaller
-unfolding stamps_of
-loop-p-smaller c = search rules
-
-pub loop-p-preserved : goal.loop-p-preserved
-unfolding stamps_of
-loop-p-preserved c = search (filled_put, arith)
-
 pub returns : goal.returns
 unfolding stamps_of
-returns c = search (filled_end, arith)
+returns c =
+    let made = c.from_fn.ensures.items in
+    listed_by c.from_fn.result 16 (λ p. (request_at c.args.rs.now p).stamp) 0 made.long (λ i h. let x = made.at i 0 h in search (of_calls, rules))

@@ -1,42 +1,22 @@
 -- `vote::queue::place_in_queue` meets its contract: a loop that returns the first place.
-use borrow.Author.Rules.{rules}
-use Rattle.kit.proofs.Bools.{eqb_means}
-use Rattle.kit.proofs.Loops.{firsts}
+use Rattle.std.proofs.Common.{ap}
+use Rattle.std.specs.Prelude.{eqb}
+use borrow.Author.Tests.{eq-eqb, ne_eqb}
+use Rattle.kit.proofs.Loops.{missed_none, missed_more, first_found, first_over}
 use Rattle.vote.specs.Queue.{place_in_queue}
 use Rattle.vote.proofs.queue.place_in_queue.Goals as goal
 
-pub index-end-requires : goal.index-end-requires
-unfolding place_in_queue
-index-end-requires c = search rules
-
 pub loop-i-init : goal.loop-i-init
-unfolding place_in_queue
-loop-i-init c = search firsts
+loop-i-init c = missed_none
 
-pub queued_at-requires : goal.queued_at-requires
+pub returns-then-queued_at-p : goal.returns-then-queued_at-p
 unfolding place_in_queue
-queued_at-requires c = search rules
-
-pub same_place-requires : goal.same_place-requires
-unfolding place_in_queue
-same_place-requires c = search rules
-
-pub returns-then-same_place : goal.returns-then-same_place
-unfolding place_in_queue
-returns-then-same_place c = rw (← c.index-end.ensures) (search (firsts, eqb_means))
-
-pub overflow_step-i : goal.overflow_step-i
-unfolding place_in_queue
-overflow_step-i c = search rules
-
-pub loop-i-smaller : goal.loop-i-smaller
-unfolding place_in_queue
-loop-i-smaller c = search firsts
+returns-then-queued_at-p c =
+    rw (← c.from-end.ensures) (first_found c.loop-i.invariant c.loop-i-test.true (ap (λ x. eqb x c.args.p) c.queued_at.ensures) (eq-eqb _ _ c.if-queued_at-p.true))
 
 pub loop-i-preserved : goal.loop-i-preserved
-unfolding place_in_queue
-loop-i-preserved c = search (firsts, eqb_means)
+loop-i-preserved c = missed_more c.loop-i.invariant c.loop-i-test.true (ap (λ x. eqb x c.args.p) c.queued_at.ensures) (ne_eqb _ _ c.if-queued_at-p.false)
 
 pub returns : goal.returns
 unfolding place_in_queue
-returns c = rw (← c.index-end.ensures) (search firsts)
+returns c = rw (← c.from-end.ensures) (first_over c.loop-i.invariant c.loop-i-test.false)

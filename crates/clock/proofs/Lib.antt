@@ -1,2 +1,0 @@
--- What the proofs of `clock` share.
-pub mod Laws

@@ -1,2 +1,0 @@
--- What the proofs by hand cite.
-pub mod Steps

@@ -1,6 +1,0 @@
--- `plans::letters::verdict_in` meets its contract.
-use Rattle.plans.proofs.Posting.{verdict_means}
-use Rattle.plans.proofs.letters.verdict_in.Goals as goal
-
-pub returns : goal.returns
-returns c = search verdict_means

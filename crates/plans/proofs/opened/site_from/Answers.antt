@@ -1,5 +1,0 @@
--- `plans::opened::site_from` meets its contract.
-use Rattle.plans.proofs.opened.site_from.Goals as goal
-
-pub returns : goal.returns
-returns c = rw c.votes_from-votes.ensures

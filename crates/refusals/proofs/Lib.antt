@@ -1,0 +1,2 @@
+-- What the layers above cite of the numbers.
+pub mod Numbers
