@@ -8,14 +8,13 @@ use borrow.Author.Tests.{leb-true, le-leb, lt-leb, lt-ltb, le-ltb, ltb-true, not
 use lib.Dec.{ltb, leb}
 use lib.IntN.{ℤ}
 use lib.ListN.{length, take, length-take}
-use lib.Seq.{length-take-le, take-take, take-length}
+use lib.Seq.{length-take-le, take-take}
 use mir.Syntax.{w64}
 use mir.Val.{Fits}
 use Rattle.kit.specs.Lists.{put}
 use Rattle.kit.proofs.Bools.{and_left, and_right, by_test, of_cond, cond_yes, cond_no}
 use Rattle.kit.proofs.Puts.{length_put, put_put, take_put}
 use Rattle.kit.proofs.Fields.{ends_in, ends_out}
-use Rattle.lines.specs.declared.Digits.{Digits}
 use Rattle.lines.specs.Lines.{decimal_of, line_of, Wrote}
 use Rattle.lines.specs.Counts.{is_kept, counted, is_keepable, counted_digits, counted_length, is_grown, one_more, digits_on, length_on, first_written, line_with, tail_of, ample_placed, ample_fitted}
 use Rattle.lines.proofs.Decimals.{length_some, length_le}
@@ -101,6 +100,10 @@ module _ (digits : List ℕ) (n : ℕ) where
   unfolding is_keepable
   too_large h = rw (le-ltb n 100000000 h)
 
+  too_few : n < 100000000 → length digits < 8 → is_keepable (length digits) n ≡ false
+  unfolding is_keepable
+  too_few h l = rw (lt-ltb n 100000000 h, lt-leb 8 (length digits) l)
+
   keepable : n < 100000000 → 8 ≤ length digits → is_keepable (length digits) n ≡ true
   unfolding is_keepable
   keepable h l = rw (lt-ltb n 100000000 h, le-leb 8 (length digits) l)
@@ -111,16 +114,22 @@ module _ (digits : List ℕ) (n : ℕ) where
   pub large_digits : 100000000 ≤ n → digits ≡ counted_digits digits n
   large_digits h = sym (digits_out (too_large h))
 
-  module _ (h : n < 100000000) (l : length digits ≡ 8) where
+  pub few_length : n < 100000000 → length digits < 8 → 0 ≡ counted_length digits n
+  few_length h l = sym (length_out (too_few h l))
+
+  pub few_digits : n < 100000000 → length digits < 8 → digits ≡ counted_digits digits n
+  few_digits h l = sym (digits_out (too_few h l))
+
+  module _ (h : n < 100000000) (l : 8 ≤ length digits) where
     pub front_fits : 0 + length (decimal_of n) ≤ length digits
     front_fits = omega (arith, length_le 7 n (omega arith))
 
     module _ (r : ℕ) (after : List ℕ) (w : Wrote digits 0 (decimal_of n) r after) where
       pub front_length : r ≡ counted_length digits n
-      front_length = let e : r ≡ length (decimal_of n) = omega (arith, w.place) in e ∙ sym (length_in (keepable h (omega arith)))
+      front_length = let e : r ≡ length (decimal_of n) = omega (arith, w.place) in e ∙ sym (length_in (keepable h l))
 
       pub front_digits : after ≡ counted_digits digits n
-      front_digits = w.bytes ∙ sym (digits_in (keepable h (omega arith)))
+      front_digits = w.bytes ∙ sym (digits_in (keepable h l))
 
   -- counting from n keeps the digits of n, and as many bytes as before
   pub counted_start : counted (counted_digits digits n) (counted_length digits n) n ≡ decimal_of n
@@ -195,10 +204,6 @@ module _ (digits : List ℕ) (len n : ℕ) where
 
         pub anew_length : g ≡ false → (m : ℕ) → m ≡ counted_length more n → m ≡ length_on digits len n
         anew_length l m w = w ∙ ap (λ (d : List ℕ). counted_length d n) added ∙ sym (on_anew_length kept (sym grown ∙ l))
-
--- the same bytes, as many of which are kept
-pub same_digits : {d e : Digits} → d.len ≡ e.len → d.bytes ≡ e.bytes → d ≡ e
-same_digits l b = λ i. record { bytes = b i; len = l i }
 
 -- counting on keeps the digits of the next number
 pub counted_on : (digits : List ℕ) (len n : ℕ) → counted digits len n ≡ decimal_of n → counted (digits_on digits len (n + 1)) (length_on digits len (n + 1)) (n + 1) ≡ decimal_of (n + 1)
@@ -316,14 +321,16 @@ module _ (digits : List ℕ) (len n : ℕ) where
       pub number_place : at + len ≡ at + length (counted digits len n)
       number_place = ap (λ (m : ℕ). at + m) (sym (length_kept some))
 
-      -- all the bytes that are kept were written
-      pub eight_put : (q : ℕ) (d₁ : List ℕ) → length digits ≡ 8 → Wrote d at digits q d₁ → d₁ ≡ put d at (first_written digits len n)
-      eight_put q d₁ l w =
-          let whole : take 8 digits ≡ digits = ap (λ (m : ℕ). take m digits) (sym l) ∙ take-length digits in
-          w.bytes ∙ ap (put d at) (sym (first_kept some ∙ whole))
+      module _ (q : ℕ) (d₁ : List ℕ) (w : Wrote d at (take 8 digits) q d₁) where
+        -- the eight bytes were written
+        pub eight_put : d₁ ≡ put d at (first_written digits len n)
+        eight_put = w.bytes ∙ ap (put d at) (sym (first_kept some))
 
-      pub eight_room : length digits ≡ 8 → at + length digits ≤ length d
-      eight_room l = omega arith
+      pub eight_enough : 8 ≤ length digits
+      eight_enough = kept_room (length digits) len some
+
+      pub eight_room : at + length (take 8 digits) ≤ length d
+      eight_room = let e : length (take 8 digits) ≡ 8 = length-take-le 8 digits (kept_room (length digits) len some) in omega arith
 
 -- ---- the line
 

@@ -1,7 +1,6 @@
 -- The number of a record kept as digits from one line to the next, and the line that begins with them.
-use Rattle.std.specs.Prelude.{Bool, true, false, ◌&&◌, cond, List, [], ◌∷◌, ◌++◌, ℕ, zero, suc, ◌+◌, ltb, leb, ℤ, length, take, get_or, set}
+use Rattle.std.specs.Prelude.{Bool, true, false, ◌&&◌, cond, List, ◌∷◌, ◌++◌, ℕ, zero, suc, ◌+◌, ltb, leb, ℤ, length, take, get_or, set}
 use Rattle.kit.specs.Lists.{put}
-use Rattle.lines.specs.declared.Digits.{Digits}
 use Rattle.lines.specs.declared.Told.{Told}
 use Rattle.lines.specs.Lines.{decimal_of, signed_of, field, back_of}
 
@@ -34,23 +33,12 @@ unfoldable pub is_grown : ℕ → List ℕ → Bool
 is_grown zero digits = false
 is_grown (suc k) digits = cond (ltb (get_or digits k 0) 57) true (is_grown k (set digits k 48))
 
--- those of n in eight bytes of their own
-abbrev pub digits_from : ℕ → Digits
-digits_from n = record {
-  bytes = counted_digits (48 ∷ 48 ∷ 48 ∷ 48 ∷ 48 ∷ 48 ∷ 48 ∷ 48 ∷ []) n;
-  len = counted_length (48 ∷ 48 ∷ 48 ∷ 48 ∷ 48 ∷ 48 ∷ 48 ∷ 48 ∷ []) n;
-}
-
 -- from the digits of the number before n to those of n: one more, and where all were `9`, all are made anew; where none are kept, none are
 unfoldable pub digits_on : List ℕ → ℕ → ℕ → List ℕ
 digits_on digits len n = cond (is_kept (length digits) len) (cond (is_grown len digits) (one_more len digits) (counted_digits (one_more len digits) n)) digits
 
 unfoldable pub length_on : List ℕ → ℕ → ℕ → ℕ
 length_on digits len n = cond (is_kept (length digits) len) (cond (is_grown len digits) len (counted_length (one_more len digits) n)) 0
-
--- both
-abbrev pub next_digits : Digits → ℕ → Digits
-next_digits d n = record { bytes = digits_on d.bytes d.len n; len = length_on d.bytes d.len n }
 
 -- the bytes that are written for the first field of a line: all eight where digits are kept, of which the rest of the line covers those behind the number
 unfoldable pub first_written : List ℕ → ℕ → ℕ → List ℕ

@@ -4,7 +4,7 @@
 ghost use Rattle.std.specs.Prelude.{◌≡◌, ◌+◌, ◌≤◌, ◌<◌, pos, length};
 ghost use Rattle.kit.specs.Lists.{put, placed};
 ghost use Rattle.lines.specs.Lines.{decimal_of, signed_of, field, line_of, back_of, fitted, Wrote};
-ghost use Rattle.lines.specs.Counts.{is_kept, counted, counted_digits, counted_length, digits_from, is_grown, one_more, next_digits, first_written, line_with, tail_of, told_line, ample_placed, ample_fitted};
+ghost use Rattle.lines.specs.Counts.{is_kept, counted, counted_digits, counted_length, is_grown, one_more, digits_on, length_on, first_written, line_with, tail_of, told_line, ample_placed, ample_fitted};
 
 // ---- numbers
 
@@ -118,90 +118,77 @@ pub fn write_refused(out: &mut [u8], at: usize, record: u64, number: u8) -> usiz
 
 // ---- the line with the number of its record kept as digits
 
-// The digits of a number that is counted on, kept from one line to the next: the first `len` of eight bytes. None are kept where `len` is not 1 to 8.
-// Stays: an array and a length by the project's rule of no heap: the digits are kept from one line to the next.
-#[derive(Clone, Copy, Debug, PartialEq, Eq)]
-pub struct Digits {
-    pub bytes: [u8; 8],
-    pub len: usize,
+// The digits of a number that is counted on, kept from one line to the next: the first `len` of the first eight bytes of a buffer. None are kept
+// where `len` is not 1 to 8, or where the buffer has fewer than eight bytes.
+// Stays: a buffer and a length, here and below, by what may not change: the clauses of `count_from` and `count_on` speak of a buffer of any length.
+
+// Whether some are kept.
+#[tactic(auto, unfolding(crate::specs::Counts::is_kept))]
+fn is_kept(size: usize, len: usize) -> bool
+    ensures { result ≡ is_kept size len }
+{
+    (1..=8).contains(&len) && 8 <= size
 }
 
-impl Digits {
-    // Those of n.
-    pub fn of(n: u64) -> Digits
-        ensures { result ≡ digits_from n }
-    {
-        let mut digits = Digits {
-            bytes: [b'0'; 8],
-            len: 0,
-        };
-        digits.count_from(n);
-        digits
+// The digits of n at the front, where it has at most eight and there are eight bytes; how many. Else nothing changes and they are none.
+pub fn count_from(digits: &mut [u8], n: u64) -> usize
+    ensures answer { result ≡ counted_length digits.old n }
+    ensures bytes { digits.new ≡ counted_digits digits.old n }
+{
+    if 100_000_000 <= n {
+        return 0;
     }
-
-    // Whether some are kept.
-    #[tactic(auto, unfolding(crate::specs::Counts::is_kept))]
-    fn is_kept(&self) -> bool
-        ensures { result ≡ is_kept (length self.now.bytes) self.now.len }
-    {
-        (1..=8).contains(&self.len)
+    if digits.len() < 8 {
+        return 0;
     }
+    write_decimal(digits, 0, n)
+}
 
-    // Keeps those of n, where it has at most eight; else none.
-    fn count_from(&mut self, n: u64)
-        ensures len { self.new.len ≡ counted_length self.old.bytes n }
-        ensures bytes { self.new.bytes ≡ counted_digits self.old.bytes n }
-    {
-        if n < 100_000_000 {
-            self.len = write_decimal(&mut self.bytes, 0, n);
-        } else {
-            self.len = 0;
+// One more in the number of the first `len` digits, from the last one to the first: a nine becomes 0 and the digit before it has its turn.
+// Whether some digit grew: where all are nines, none does.
+fn add_one(digits: &mut [u8], len: usize) -> bool
+    requires { len ≤ length digits.old }
+    ensures answer { result ≡ is_grown len digits.old }
+    ensures bytes { digits.new ≡ one_more len digits.old }
+{
+    // Stays: tried `digits[..len].iter_mut().rev()`; the clauses stayed open where a digit grew, for the same reason.
+    for i in (0..len).rev() {
+        if digits[i] < b'9' {
+            digits[i] += 1;
+            return true;
         }
+        digits[i] = b'0';
     }
+    false
+}
 
-    // One more in the number of the first `len` digits, from the last one to the first: a nine becomes 0 and the digit before it has its turn.
-    // Whether some digit grew: where all are nines, none does.
-    fn add_one(&mut self) -> bool
-        requires { self.old.len ≤ length self.old.bytes }
-        ensures answer { result ≡ is_grown self.old.len self.old.bytes }
-        ensures len { self.new.len ≡ self.old.len }
-        ensures bytes { self.new.bytes ≡ one_more self.old.len self.old.bytes }
-    {
-        // Stays: tried `self.bytes[..self.len].iter_mut().rev()`; the clauses stayed open where a digit grew, for the same reason.
-        for i in (0..self.len).rev() {
-            if self.bytes[i] < b'9' {
-                self.bytes[i] += 1;
-                return true;
-            }
-            self.bytes[i] = b'0';
-        }
-        false
+// From those of n - 1, the first `len`, to those of n: one more, and where all were nines, all are made anew. Where none are kept, none are.
+pub fn count_on(digits: &mut [u8], len: usize, n: u64) -> usize
+    ensures answer { result ≡ length_on digits.old len n }
+    ensures bytes { digits.new ≡ digits_on digits.old len n }
+{
+    if !is_kept(digits.len(), len) {
+        return 0;
     }
+    if add_one(digits, len) {
+        return len;
+    }
+    count_from(digits, n)
+}
 
-    // From those of n - 1 to those of n: one more, and where all were nines, all are made anew. Where none are kept, none are.
-    pub fn count_on(&mut self, n: u64)
-        ensures { self.new ≡ next_digits self.old n }
-    {
-        if !self.is_kept() {
-            self.len = 0;
-        } else if !self.add_one() {
-            self.count_from(n);
-        }
+// The bytes of the first field of a line, those that are kept, else made of `record`, written at a place; the place behind them. All eight
+// bytes are written, the rest of the line goes over those behind the number.
+fn write_first(out: &mut [u8], at: usize, digits: &[u8], len: usize, record: u64) -> usize
+    requires { at + 20 ≤ length out.old }
+    ensures place { result ≡ at + length (counted digits.now len «record») }
+    ensures bytes { out.new ≡ put out.old at (first_written digits.now len «record») }
+{
+    if !is_kept(digits.len(), len) {
+        return write_decimal(out, at, record);
     }
-
-    // The bytes of the first field of a line, those that are kept, else made of `record`, written at a place; the place behind them. All eight
-    // bytes are written, the rest of the line goes over those behind the number.
-    fn write(&self, out: &mut [u8], at: usize, record: u64) -> usize
-        requires { at + 20 ≤ length out.old }
-        ensures place { result ≡ at + length (counted self.now.bytes self.now.len «record») }
-        ensures bytes { out.new ≡ put out.old at (first_written self.now.bytes self.now.len «record») }
-    {
-        if !self.is_kept() {
-            return write_decimal(out, at, record);
-        }
-        write_bytes(out, at, &self.bytes);
-        at + self.len
-    }
+    prove!(8 <= digits.len());
+    write_bytes(out, at, &digits[..8]);
+    at + len
 }
 
 // What a line says behind the number of its record: the number given back, the two results, how many requests were accepted and rejected.
@@ -230,13 +217,20 @@ impl Told {
 
 // The line of a record whose first field is the digits that are kept, else `record`, written at a place behind which 89 bytes fit; its length.
 // Where they do not, nothing changes and the length is 0.
-pub fn write_counted(out: &mut [u8], at: usize, digits: &Digits, record: u64, told: &Told) -> usize
-    ensures { (result ≡ ample_fitted out.old at (told_line (counted digits.now.bytes digits.now.len «record») told.now))
-        × (out.new ≡ ample_placed out.old at (told_line (counted digits.now.bytes digits.now.len «record») told.now)) }
+pub fn write_counted(
+    out: &mut [u8],
+    at: usize,
+    digits: &[u8],
+    len: usize,
+    record: u64,
+    told: &Told,
+) -> usize
+    ensures answer { result ≡ ample_fitted out.old at (told_line (counted digits.now len «record») told.now) }
+    ensures bytes { out.new ≡ ample_placed out.old at (told_line (counted digits.now len «record») told.now) }
 {
     if !kit::ends_inside(out.len(), at, 89) {
         return 0;
     }
-    let p = digits.write(out, at, record);
+    let p = write_first(out, at, digits, len, record);
     told.write(out, p) - at
 }

@@ -10,8 +10,7 @@ use Rattle.std.specs.Prelude.{Option, Some, None, Result, Ok, Err, eqb}
 use Rattle.kit.proofs.Bools.{by_test, of_cond}
 use Rattle.kit.specs.Lists.{put, placed}
 use Rattle.lines.proofs.Counting.{counted_start, counted_on}
-use Rattle.lines.specs.Counts.{counted, digits_from, digits_on, length_on}
-use Rattle.lines.specs.declared.Digits.{Digits}
+use Rattle.lines.specs.Counts.{counted, digits_on, length_on}
 use Rattle.lines.specs.Lines.{decimal_of, fitted}
 use Rattle.plans.specs.Answers.{Answer, refusal}
 use Rattle.plans.specs.declared.answer.Results.{Results}
@@ -150,10 +149,6 @@ module _ {t₀ : Table} {nth₀ : ℕ} {s out₀ : List ℕ} {end room : ℕ} wh
                   : {ds : List ℕ} {fs : ℕ} → u.count ≤ 7 → fs ≡ length_on digits figures (nth + 1) → ds ≡ digits_on digits figures (nth + 1)
                   → Turning t₀ nth₀ s out₀ end room u ds fs out' (at + (3 + w.length)) (to + n) (nth + 1)
               turning_on l hs hd = record { going = turning_wrote; few = l; figured = rw (hd, hs) (counted_on digits figures nth g.figured) }
-
--- the digits of the first number
-pub digits_start : (n : ℕ) {d : Digits} → d ≡ digits_from n → counted d.bytes d.len n ≡ decimal_of n
-digits_start n e = rw e (counted_start _ n)
 
 -- a table keeps its number of sites
 pub count_kept : (t : Table) (x : Record) {z : Stepped} → z ≡ answered_on t x → t.count ≤ 7 → z.table.count ≤ 7

@@ -11,7 +11,7 @@ ghost use Rattle.steps.specs.Night.{answered_on, line_for, is_full, part_from, r
 
 use crate::acting::take_step;
 use crate::run::Ran;
-use lines::{Digits, Told, write_counted};
+use lines::{Told, count_from, count_on, write_counted};
 use plans::answer::Results;
 use plans::free::FreePlaces;
 use record::{Brief, Whole, read_brief, read_numbers};
@@ -80,17 +80,18 @@ fn told_of(answer: Result<Results, Refusal>) -> Told
 fn write_answer(
     output: &mut [u8],
     at: usize,
-    digits: &Digits,
+    digits: &[u8],
+    len: usize,
     nth: u64,
     answer: Result<Results, Refusal>,
 ) -> usize
     requires room { at + 89 ≤ length output.old }
-    requires digits { counted digits.now.bytes digits.now.len nth ≡ decimal_of nth }
+    requires digits { counted digits.now len nth ≡ decimal_of nth }
     ensures answer { result ≡ fitted output.old at (line_for nth (answer_from answer)) }
     ensures bytes { output.new ≡ placed output.old at (line_for nth (answer_from answer)) }
     ensures short { length (line_for nth (answer_from answer)) ≤ 89 }
 {
-    write_counted(output, at, digits, nth, &told_of(answer))
+    write_counted(output, at, digits, len, nth, &told_of(answer))
 }
 
 // Answers record after record of the input, while one is whole and there is room for its line. The number of the next record is also kept as its
@@ -105,15 +106,16 @@ pub(crate) fn answer_all(t: &mut Table, nth: u64, input: &[u8], output: &mut [u8
     let mut stamps = [0; 24];
     let mut values = [0; 24];
     let mut free = FreePlaces::among(&t.messages);
-    let mut digits = Digits::of(nth);
+    let mut digits = [b'0'; 8];
+    let mut len = count_from(&mut digits, nth);
     let mut taken = 0;
     let mut written = 0;
     let mut next = nth;
     while let Some(r) = read_next(room - written, next, &input[taken..]) {
         let answer = answer(t, &mut free, r, &input[taken..], &mut stamps, &mut values);
-        written += write_answer(output, written, &digits, next, answer);
+        written += write_answer(output, written, &digits, len, next, answer);
         next += 1;
-        digits.count_on(next);
+        len = count_on(&mut digits, len, next);
         taken += r.size();
     }
     Ran {

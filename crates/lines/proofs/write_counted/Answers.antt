@@ -5,11 +5,11 @@ use Rattle.lines.proofs.write_counted.Goals as goal
 pub returns-then-not-ends_inside : goal.returns-then-not-ends_inside
 returns-then-not-ends_inside c = search (no_room_length, no_room_bytes)
 
-pub write-p-requires : goal.write-p-requires
-write-p-requires c = search first_room
+pub write_first-p-requires : goal.write_first-p-requires
+write_first-p-requires c = search first_room
 
 pub write-requires : goal.write-requires
 write-requires c = search tail_room
 
 pub returns : goal.returns
-returns c = (search over_length, search over_bytes)
+returns c = record { answer = search over_length; bytes = search over_bytes }

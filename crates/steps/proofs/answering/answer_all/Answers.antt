@@ -1,9 +1,9 @@
 -- `steps::answering::answer_all` meets its contract: what is left to do behind the records that were answered is all that was to do.
 use Rattle.std.proofs.Common.{◌+◌, length, refl, ap, rules, arith}
-use Rattle.lines.specs.declared.Digits.{Digits}
+use Rattle.lines.proofs.Counting.{counted_start}
 use Rattle.steps.specs.Night.{part_from}
 use Rattle.steps.proofs.Running.{Going}
-use Rattle.steps.proofs.Turning.{turning_start, turning_over, is_next, turning_room, turning_number, turning_wrote, turning_on, count_kept, digits_start}
+use Rattle.steps.proofs.Turning.{turning_start, turning_over, is_next, turning_room, turning_number, turning_wrote, turning_on, count_kept}
 use Rattle.steps.proofs.answering.answer_all.Goals as goal
 use Rattle.steps.proofs.answering.answer_all.Goals.{After-write_answer-written}
 
@@ -17,7 +17,7 @@ written c =
     turning_wrote c.loop-r.invariant.1 _ c.read_next.ensures c.in-Some.is c.answer-answer.ensures.answer e.answer e.bytes e.short
 
 pub loop-r-init : goal.loop-r-init
-loop-r-init c = (c.among-free.ensures, turning_start refl refl c.requires (digits_start c.args.nth c.of-digits.ensures))
+loop-r-init c = (c.among-free.ensures, turning_start refl refl c.requires (rw (c.count_from-len.ensures.answer, c.count_from-len.ensures.bytes) (counted_start _ c.args.nth)))
 
 pub answer-answer-requires-clause-read : goal.answer-answer-requires-clause-read
 answer-answer-requires-clause-read c = is_next c.loop-r.invariant.1 _ c.read_next.ensures c.in-Some.is
@@ -37,9 +37,9 @@ loop-r-smaller c = let g = written (goal.at.loop-r-smaller c).After-write_answer
 pub loop-r-preserved : goal.loop-r-preserved
 loop-r-preserved c =
     let e = c.write_answer-written.ensures in
-    let d = c.count_on.ensures in
+    let d = c.count_on-len.ensures in
     rw c.size-taken.ensures
-    (c.answer-answer.ensures.free, turning_on c.loop-r.invariant.1 _ c.read_next.ensures c.in-Some.is c.answer-answer.ensures.answer e.answer e.bytes e.short (count_kept c.loop-r.t _ c.answer-answer.ensures.answer c.loop-r.invariant.1.few) (ap (λ (x : Digits). x.len) d) (ap (λ (x : Digits). x.bytes) d))
+    (c.answer-answer.ensures.free, turning_on c.loop-r.invariant.1 _ c.read_next.ensures c.in-Some.is c.answer-answer.ensures.answer e.answer e.bytes e.short (count_kept c.loop-r.t _ c.answer-answer.ensures.answer c.loop-r.invariant.1.few) d.answer d.bytes)
 
 pub returns-clause-answer : goal.returns-clause-answer
 returns-clause-answer c = let h = turning_over c.loop-r.invariant.1 _ c.read_next.ensures c.in_default.is in h.0

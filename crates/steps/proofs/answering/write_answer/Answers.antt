@@ -26,4 +26,4 @@ returns c =
     let short : length (line_for a.nth (answer_from a.answer)) ≤ 89 = rw e at s in
     let p = c.requires in
     let w = rw e at c.write_counted.ensures in
-    record { answer = w.0 ∙ line_fitted _ _ _ (answer_from a.answer) _ _ p.room p.digits short; bytes = w.1 ∙ line_placed _ _ _ (answer_from a.answer) _ _ p.room p.digits short; short = short }
+    record { answer = w.answer ∙ line_fitted _ _ _ (answer_from a.answer) _ _ p.room p.digits short; bytes = w.bytes ∙ line_placed _ _ _ (answer_from a.answer) _ _ p.room p.digits short; short = short }
