@@ -6,7 +6,7 @@ use mathlib.Core.Path.{◌≡◌, refl, sym, ap, ◌∙◌, subst}
 use native.Mathlib.Nat.{one-mul, mod-eq_of_lt}
 use native.Mathlib.Omega.{arith}
 use lib.Pow.{pow-lt}
-use borrow.Author.Tests.{eq-eqb, ne_eqb, lt-ltb, le-ltb}
+use borrow.Author.Tests.{eq-eqb, ne_eqb, lt-ltb, le-ltb, not-true}
 use lib.Dec.{eqb, ltb}
 use lib.Count.{count_trailing_zeros}
 use lib.ListN.{length, get_or, set}
@@ -93,14 +93,10 @@ module _ (f : FreePlaces) (l : List Message) (e : f ≡ free_among l) {j : ℕ} 
 -- the lowest free place is free
 pub lowest_free : (l : List Message) {j : ℕ} → j ≡ first 64 (λ i. not (get_or l i no_message).used) → j < 64 → (get_or l j no_message).used ≡ false
 lowest_free l {j} e h =
-    by_test (any 64 free) (λ t. let w = first_hit 64 free t in not_true (get_or l j no_message).used (rw (← e) at w.1)) (λ f. absurd (let n = first_none 64 free f in omega arith))
+    by_test (any 64 free) (λ t. let w = first_hit 64 free t in not-true (get_or l j no_message).used (rw (← e) at w.1)) (λ f. absurd (let n = first_none 64 free f in omega arith))
   where
     free : ℕ → Bool
     free i = not (get_or l i no_message).used
-
-    not_true : (b : Bool) → not b ≡ true → b ≡ false
-    not_true true x = clash x refl
-    not_true false x = refl
 
 -- ---- a place taken from a set, or given to it, by the code
 

@@ -13,7 +13,8 @@ use vote::data::Request;
 
 // The stamp of a begin at a site of n whose last t this is, by checks 5 to 8: the record a with its stamps and values.
 #[tactic(auto, unfolding(crate::specs::Pieces::given_for))]
-// Stays: a record's stamps and values beside it: they are read apart from it, since no step but a begin looks at them (docs/SPEED.md).
+// Stays: tried, and too slow: a record with its stamps and values in one struct is put together in memory for every step (1.6 against 1.5 of
+// the second program's time, docs/SPEED.md), so they stand beside it here and wherever a begin goes.
 pub fn stamp_for(
     n: u8,
     last: u32,
@@ -41,7 +42,7 @@ fn kept<T: Copy>(zero: T, set: u32, numbers: &[T; 24]) -> [T; 24]
     ensures { result ≡ kept_row zero «set» numbers.now }
 {
     let mut row = [zero; 24];
-    // Stays: the item's number is what the set is asked for; `enumerate` over two rows is no plainer.
+    // Stays: tried `array::from_fn`; of the generic closure stayed open that i is below 24, and what it gives (`listed`, `returns`).
     for i in 0..24 {
         row[i] = if sets::has(set, i) { numbers[i] } else { zero };
     }

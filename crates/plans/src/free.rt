@@ -15,9 +15,8 @@ impl FreePlaces {
         ensures { result ≡ free_among messages.now }
     {
         let mut set: u64 = 0;
-        // Stays: the place's number is the digit's; `enumerate` is no plainer.
-        for j in 0..64 {
-            set += u64::from(!messages[j].used) << j;
+        for (j, m) in messages.iter().enumerate() {
+            set += u64::from(!m.used) << j;
         }
         FreePlaces { set }
     }

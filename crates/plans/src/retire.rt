@@ -25,9 +25,8 @@ fn is_open_at(n: u8, k: usize, s: &Site, p: u8) -> bool
 fn is_open_somewhere(n: u8, sites: &[Site; 7], p: u8) -> bool
     ensures { result ≡ any 7 (λ k. ltb k n && is_open (vote_at (get_or sites.now k no_site).votes p).verdict) }
 {
-    // Stays: the site's number is asked too, and the clause is over numbers; `enumerate` is no plainer.
-    for k in 0..7 {
-        if is_open_at(n, k, &sites[k], p) {
+    for (k, s) in sites.iter().enumerate() {
+        if is_open_at(n, k, s, p) {
             return true;
         }
     }

@@ -1,5 +1,6 @@
 // Each step carried out on the table where it stands. A refused one changes nothing.
-// Stays: that a table has at most 7 sites is asked of these private functions and no type says it: `step` and `run` take any table and find out.
+// Stays: that a table has at most 7 sites is asked of these private functions; a type for it would be no plainer, since `step` and `run` are lent any table
+// and it would be made and opened around each call.
 // Stays: so is that the free places are the table's: a struct of both would lend a table that its caller owns, and be opened at each step.
 ghost use Rattle.std.specs.Prelude.{ℕ, ◌≤◌, ◌≡◌, Bool, List, ℤ};
 ghost use Rattle.plans.specs.Free.{free_among};

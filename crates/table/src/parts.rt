@@ -44,7 +44,7 @@ fn is_stamp_right(n: u8, lasts: &[u32; 7], stamp: u64) -> bool
 }
 
 // Whether each stamp of a copy is right. Often it is the one before it, which has passed.
-// Stays: a loop with a memory; a closure for `.all(..)` that keeps the stamp before it would be no plainer.
+// Stays: a loop with a memory; `.all(..)` would need a closure that changes `last` from turn to turn, which is no plainer.
 fn are_copied_in_time(n: u8, lasts: &[u32; 7], copied: &[u64; 24]) -> bool
     ensures { result ≡ all 24 (λ i. well_formed n (get_or copied.now i 0) && time_right lasts.now (get_or copied.now i 0)) }
 {
@@ -70,7 +70,7 @@ fn is_value_right(stamp: u64, value: i32) -> bool
 }
 
 // Whether each value of a copy is right beside its stamp.
-// Stays: a hot loop that no turn leaves, so that the tests can be made side by side; `.all(..)` leaves at the first that fails.
+// No turn leaves the loop, so that the tests can be made side by side.
 fn are_copied_right(copied: &[u64; 24], values: &[i32; 24]) -> bool
     ensures { result ≡ all 24 (λ i. value_right (get_or copied.now i 0) (get_or values.now i (pos 0))) }
 {
@@ -95,7 +95,7 @@ fn is_queue_end_blank(waiting: u8, queue: &[u8; 16]) -> bool
 }
 
 // How often each place stands among these of a queue.
-// Stays: a loop; a fold that carries the 16 counts from turn to turn is no plainer.
+// Stays: a loop; the closure of a fold would take and give back the 16 counts at each turn, which is no plainer.
 fn times_queued(queue: &[u8]) -> [u8; 16]
     requires { length queue.now ≤ 16 }
     ensures { result ≡ listed 16 (λ p. number (length queue.now) (λ i. eqb (queued_at queue.now i) p)) }

@@ -59,9 +59,13 @@ released s p =
 abbrev pub with_verdict : Verdict → Vote → Vote
 with_verdict d v = record { mark = v.mark; verdict = d }
 
--- the site with the verdict d on the request at place p
+-- what a site has said, with the verdict d on the request at place p
+abbrev pub verdict_put : List Vote → ℕ → Verdict → List Vote
+verdict_put votes p d = set votes p (with_verdict d (vote_at votes p))
+
+-- the site with that
 unfoldable pub noted : Site → ℕ → Verdict → Site
-noted s p d = with_votes (set s.votes p (with_verdict d (vote_at s.votes p))) s
+noted s p d = with_votes (verdict_put s.votes p d) s
 
 -- a verdict of acceptance writes
 abbrev pub written_if : Verdict → Site → Request → Site

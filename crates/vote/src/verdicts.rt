@@ -1,10 +1,10 @@
 // Verdicts at a site.
 ghost use Rattle.std.specs.Prelude.{◌≡◌};
 ghost use Rattle.vote.specs.Data.{vote_at};
-ghost use Rattle.vote.specs.Verdicts.{verdict_due, noted, released, ruled, stamps_written, values_written, written_site};
+ghost use Rattle.vote.specs.Verdicts.{verdict_due, verdict_put, released, ruled, stamps_written, values_written, written_site};
 
 use crate::consider::is_deferred;
-use crate::data::{Mark, Request, Site, Verdict};
+use crate::data::{Mark, Request, Site, Verdict, Vote};
 use crate::queue::{leave_queue, place_in_queue};
 use crate::voters::count_known;
 use crate::voting::{put_mark, vote_at};
@@ -35,14 +35,13 @@ pub fn release(s: &mut Site, p: u8)
     }
 }
 
-// The verdict v on the request at place p is noted; nothing changes at a place above 15.
-#[tactic(auto, unfolding(crate::specs::Verdicts::noted))]
-pub fn note_verdict(s: &mut Site, p: u8, v: Verdict)
-    ensures { s.new ≡ noted s.old p v }
+// The request at place p gets the verdict v; nothing changes at a place past the end.
+pub fn note_verdict(votes: &mut [Vote], p: u8, v: Verdict)
+    ensures { votes.new ≡ verdict_put votes.old p v }
 {
     let at = usize::from(p);
-    if at < 16 {
-        s.votes[at].verdict = v;
+    if at < votes.len() {
+        votes[at].verdict = v;
     }
 }
 
@@ -74,14 +73,14 @@ pub fn write_request(s: &mut Site, q: &Request)
 }
 
 // The request q at place p gets the verdict v: a deferred one leaves the queue and its mark becomes none, and an accepted one is written.
-#[tactic(auto, unfolding(crate::specs::Verdicts::ruled, crate::specs::Verdicts::decided))]
+#[tactic(auto, unfolding(crate::specs::Verdicts::ruled, crate::specs::Verdicts::decided, crate::specs::Verdicts::noted))]
 pub fn rule(s: &mut Site, q: &Request, p: u8, v: Verdict)
     ensures { s.new ≡ ruled s.old q.now p v }
 {
     if is_deferred(vote_at(&s.votes, p).mark) {
         release(s, p);
     }
-    note_verdict(s, p, v);
+    note_verdict(&mut s.votes, p, v);
     if matches!(v, Verdict::Accepted) {
         write_request(s, q);
     }

@@ -130,7 +130,7 @@ pub fn is_known(known: &[bool; 112], p: u8, u: usize) -> bool
 }
 
 // Whether each voter known in a, of any place, is known in b.
-// Stays: a loop that no turn leaves, so that the tests are made side by side; `all` leaves at the first and is slower.
+// No turn leaves the loop, so that the tests can be made side by side.
 #[tactic(auto, using(crate::proofs::KnownVoters::strange_none, crate::proofs::KnownVoters::strange_over))]
 pub fn are_known_among(a: &[bool; 112], b: &[bool; 112]) -> bool
     ensures { result ≡ all 16 (λ p. are_among (voters_of a.now p) (voters_of b.now p)) }

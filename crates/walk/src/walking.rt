@@ -18,7 +18,8 @@ pub struct Settled {
 }
 
 // How many acceptances a verdict is, and how many rejections.
-// Stays: a function for each of two verdicts: the clauses are two definitions, and one function over the verdict asked for would say no more in fewer words.
+// Stays: a function for each of two verdicts, by what may not change: both are public calls with a theorem (`one_one_if_accepted`,
+// `one_one_if_rejected`).
 pub fn one_if_accepted(v: Verdict) -> u32
     ensures { result ≡ accepts_of v }
 {

@@ -8,4 +8,4 @@ use mathlib.Core.Path.{◌≡◌}
 use Rattle.plans.proofs.free.FreePlaces.among.Given as goal
 
 abbrev pub invariant-loop-j : goal.invariant-loop-j
-invariant-loop-j l = (l.j ≤ 64) × (l.set ≡ set_of l.j (λ j. not (get_or l.messages j no_message).used))
+invariant-loop-j l = (l.set ≡ set_of l.j (λ j. not (get_or l.messages j no_message).used))
