@@ -30,6 +30,18 @@ use Rattle.vote.proofs.consider.mark_of.Kinds as mark_of_kinds
 use Rattle.vote.proofs.consider.mark_of.Reads as mark_of_reads
 use Rattle.vote.proofs.consider.is_deferral.Kinds as is_deferral_kinds
 use Rattle.vote.proofs.consider.is_deferral.Reads as is_deferral_reads
+use Rattle.vote.proofs.numbers.mark_number.Kinds as mark_number_kinds
+use Rattle.vote.proofs.numbers.mark_number.Reads as mark_number_reads
+use Rattle.vote.proofs.numbers.mark_from.Kinds as mark_from_kinds
+use Rattle.vote.proofs.numbers.mark_from.Reads as mark_from_reads
+use Rattle.vote.proofs.numbers.verdict_number.Kinds as verdict_number_kinds
+use Rattle.vote.proofs.numbers.verdict_number.Reads as verdict_number_reads
+use Rattle.vote.proofs.numbers.verdict_from.Kinds as verdict_from_kinds
+use Rattle.vote.proofs.numbers.verdict_from.Reads as verdict_from_reads
+use Rattle.vote.proofs.numbers.vote_number.Kinds as vote_number_kinds
+use Rattle.vote.proofs.numbers.vote_number.Reads as vote_number_reads
+use Rattle.vote.proofs.numbers.vote_from.Kinds as vote_from_kinds
+use Rattle.vote.proofs.numbers.vote_from.Reads as vote_from_reads
 use Rattle.vote.proofs.queue.queued_at.Kinds as queued_at_kinds
 use Rattle.vote.proofs.queue.queued_at.Reads as queued_at_reads
 use Rattle.vote.proofs.queue.join_queue.Kinds as join_queue_kinds
@@ -154,6 +166,30 @@ one_mark_of κs a r r' w w' p q = (as_one p q, refl)
 -- vote::consider::is_deferral
 pub one_is_deferral : OneOutcome is_deferral_kinds.ps is_deferral_kinds.r is_deferral_reads.Learnt
 one_is_deferral κs a r r' w w' p q = (as_one p q, refl)
+
+-- vote::numbers::mark_number
+pub one_mark_number : OneOutcome mark_number_kinds.ps mark_number_kinds.r mark_number_reads.Learnt
+one_mark_number κs a r r' w w' p q = (as_one p q, refl)
+
+-- vote::numbers::mark_from
+pub one_mark_from : OneOutcome mark_from_kinds.ps mark_from_kinds.r mark_from_reads.Learnt
+one_mark_from κs a r r' w w' p q = (as_one p q, refl)
+
+-- vote::numbers::verdict_number
+pub one_verdict_number : OneOutcome verdict_number_kinds.ps verdict_number_kinds.r verdict_number_reads.Learnt
+one_verdict_number κs a r r' w w' p q = (as_one p q, refl)
+
+-- vote::numbers::verdict_from
+pub one_verdict_from : OneOutcome verdict_from_kinds.ps verdict_from_kinds.r verdict_from_reads.Learnt
+one_verdict_from κs a r r' w w' p q = (as_one p q, refl)
+
+-- vote::numbers::vote_number
+pub one_vote_number : OneOutcome vote_number_kinds.ps vote_number_kinds.r vote_number_reads.Learnt
+one_vote_number κs a r r' w w' p q = (as_one p q, refl)
+
+-- vote::numbers::vote_from
+pub one_vote_from : OneOutcome vote_from_kinds.ps vote_from_kinds.r vote_from_reads.Learnt
+one_vote_from κs a r r' w w' p q = (as_one p q, refl)
 
 -- vote::queue::queued_at
 pub one_queued_at : OneOutcome queued_at_kinds.ps queued_at_kinds.r queued_at_reads.Learnt

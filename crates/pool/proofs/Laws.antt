@@ -1,5 +1,6 @@
--- The lowest place that passes, counted by places and by messages.
-use Rattle.std.proofs.Common.{◌≡◌, refl, sym, ℕ, zero, suc, ◌+◌, ◌<◌, Bool, false, not, cond, List, ◌∷◌, length, arith}
+-- What the proofs of `pool` say of a machine's test, and of the offset of a place; and the lowest place that passes, counted by places and by messages.
+use Rattle.std.proofs.Common.{◌≡◌, refl, sym, ℕ, zero, suc, ◌+◌, ◌*◌, ◌^◌, ◌<◌, Bool, true, false, not, cond, List, ◌∷◌, length, arith}
+use lib.Dec.{T}
 use native.Mathlib.Nat.{add_comm}
 use native.Mathlib.Numerals.{add-one}
 use borrow.Author.Tests.{lt-ltb, le-ltb}
@@ -11,6 +12,21 @@ use Rattle.kit.proofs.Bools.{by_test, by_lt}
 use Rattle.kit.proofs.Ranges.{any_at, none_of, first_is, first_none, first_hit, first_le}
 use Rattle.table.specs.declared.data.Message.{Message}
 use Rattle.pool.specs.Pool.{free_at}
+
+-- a test that passed, and one that failed
+pub passed : (c : Bool) → T c → c ≡ true
+passed true t = refl
+passed false t = absurd t
+
+pub failed : (c : Bool) → T (not c) → c ≡ false
+failed true t = absurd t
+failed false t = refl
+
+-- a message takes 19 bytes, and all of them fewer than 2 ^ 63: so the offset of each fits a usize
+pub offset_fits : {i n : ℕ} → i < n → n * 19 < 2 ^ 63 → i * 19 < 2 ^ 64
+offset_fits h r = omega arith
+
+-- ---- the lowest place
 
 none_shifted : (n : ℕ) (p : ℕ → Bool) → p 0 ≡ false → any n (λ j. p (suc j)) ≡ false → any (suc n) p ≡ false
 none_shifted n p e f = none_of (suc n) p go

@@ -1,2 +1,3 @@
 -- What the proofs of `pool` share.
 pub mod Laws
+pub mod Whole

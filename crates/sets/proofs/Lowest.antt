@@ -133,6 +133,9 @@ module _ (s : ℕ) (t : ℕ → Bool) where
     pub sought_item : count_trailing_zeros 32 left < 32
     sought_item = item_small s v.from left ne v.fits v.left_is
 
+    pub sought_below : (k : ℕ) → s < 2 ^ k → count_trailing_zeros 32 left < k
+    sought_below k h = item_below s v.from left ne v.fits v.left_is k h
+
     pub sought_less : bit_and left (left - 1) < left
     sought_less = left_falls s v.from left ne v.fits v.left_is
 

@@ -69,7 +69,7 @@ fn show(rt: HostRuntime, path: &[u8]) -> io::Result<()> {
     };
     match read_site_file(&buf[..n]) {
         Ok(file) => print_file(rt.stdout(), &file),
-        Err(refusal) => println!(rt; "refused {refusal}"),
+        Err(refusal) => println!(rt; "refused {}", refusal.number()),
     }
 }
 

@@ -1,4 +1,4 @@
--- What a chain over the numbers below n, or over a row, computes: `any` and `number` of document 01's items and entries.
+-- What a chain over the numbers below n, or over a row, computes: `any` of document 01's items and entries.
 use mathlib.Core.Path.{◌≡◌, refl, sym, ap, ap₂, ◌∙◌}
 use mathlib.Core.Bool.{Bool, true, false, ◌||◌, cond, or_assoc}
 use mathlib.Core.List.{List, [], ◌∷◌}
@@ -6,12 +6,11 @@ use Prim.Native.Nat.{ℕ, zero, suc, ◌+◌}
 use native.Mathlib.Nat.{zero-add}
 use native.Mathlib.Omega.{arith}
 use lib.ListN.{length, get_or}
-use Rattle.std.specs.List.{list_any, count_by, range_with_len, zip}
-use Rattle.std.proofs.lemmas.List.Sums.{sum_by-cons}
+use Rattle.std.specs.List.{list_any, range_with_len, zip}
 use Rattle.std.proofs.lemmas.List.FromFn.{length-range_with_len, get_or-range_with_len}
 use Rattle.std.proofs.lemmas.Slice.Zip.{get_or-zip, length-zip}
-use Rattle.kit.specs.Range.{any, one, number}
-use Rattle.kit.proofs.Ranges.{any_same, number_low}
+use Rattle.kit.specs.Range.{any}
+use Rattle.kit.proofs.Ranges.{any_same}
 
 any_low : (n : ℕ) (p : ℕ → Bool) → any (suc n) p ≡ (p 0 || any n (λ i. p (suc i)))
 unfolding any
@@ -27,15 +26,6 @@ module _ {X : Type 0} (p : X → Bool) (d : X) where
   unfolding any
   list_any_is [] = refl
   list_any_is (x ∷ xs) = ap (λ (b : Bool). p x || b) (list_any_is xs) ∙ sym (any_low (length xs) (λ i. p (get_or (x ∷ xs) i d)))
-
-  pub count_is : (xs : List X) → count_by p xs ≡ number (length xs) (λ i. p (get_or xs i d))
-  unfolding number
-  count_is [] = refl
-  count_is (x ∷ xs) = sum_by-cons (λ y. cond (p y) 1 0) x xs ∙ ap₂ (λ (a b : ℕ). a + b) (counted (p x)) (count_is xs) ∙ sym (number_low (length xs) (λ i. p (get_or (x ∷ xs) i d)))
-    where
-      counted : (b : Bool) → cond b 1 0 ≡ one b
-      counted true = refl
-      counted false = refl
 
 -- `(0..n).any(p)`
 pub any_below : (n : ℕ) (p : ℕ → Bool) → list_any p (range_with_len 0 n) ≡ any n p

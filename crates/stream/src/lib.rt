@@ -4,12 +4,16 @@
 
 mod files;
 
-ghost use Rattle.std.specs.Prelude.{◌≤◌, ◌≡◌, true, length, IfOk};
+ghost use Rattle.std.specs.Prelude.{◌≤◌, ◌≡◌, true, pos, length, take, IfOk};
+ghost use Rattle.lines.specs.Lines.{line_of};
+ghost use Rattle.refusals.specs.Numbers.{number_of};
+ghost use Rattle.stream.specs.Counts.{IsPrefixLen};
 ghost use Rattle.table.specs.Meaning.{ShapedTable};
 ghost use Rattle.table.specs.Sound.{sound_table};
 ghost use Rattle.stream.specs.Stands.{Stands};
 
 use crate::files::save_copies;
+use lines::write_refused;
 use refusals::Refusal;
 use std::io;
 use std::io::{Read, Stdin, Stdout};
@@ -46,8 +50,11 @@ impl Standing {
         requires { Stands self.old.table self.old.at self.old.end (length buf.old) }
         ensures { Stands self.new.table self.new.at self.new.end (length buf.new) }
     {
-        buf.copy_within(self.at..self.end, 0);
         let have = self.end - self.at;
+        // Nothing moves where the bytes are at the front already: a long record that comes in small pieces would be copied for each of them.
+        if self.at != 0 {
+            buf.copy_within(self.at..self.end, 0);
+        }
         let n = input.read(&mut buf[have..]).unwrap_or(0);
         self.at = 0;
         self.end = have + n;
@@ -55,9 +62,19 @@ impl Standing {
     }
 }
 
-// The line of a record that gave a number and no more. It is a night's last, so that nothing is left to do where it cannot be printed.
+// The line of a record that gave a number and no more, at the front of a buffer; its length. No line is longer than 89 bytes.
+fn write_refusal(line: &mut [u8; 89], nth: u64, refusal: Refusal) -> usize
+    ensures inside { IsPrefixLen result line.new }
+    ensures line { take result line.new ≡ line_of nth (number_of refusal) (pos 0) 0 0 0 }
+{
+    write_refused(line, 0, nth, refusal.number())
+}
+
+// The same line, printed. It is a night's last, so that nothing is left to do where it cannot be printed.
 fn print_refusal(output: Stdout, nth: u64, refusal: Refusal) {
-    let _ = println!(output; "{nth} {refusal} 0 0 0 0");
+    let mut line = [0; 89];
+    let n = write_refusal(&mut line, nth, refusal);
+    let _ = output.write_all(&line[..n]);
 }
 
 // Answers record after record until the input ends, and then the record that is cut there, if one is; or until lines cannot be printed.

@@ -1,17 +1,18 @@
 -- What held where a site made this or that of a request.
-use mathlib.Core.Path.{◌≡◌, refl}
+use mathlib.Core.Path.{◌≡◌, refl, ◌∙◌}
 use mathlib.Core.Bool.{Bool, true, false, ◌&&◌, cond}
 use mathlib.Core.List.{List}
-use Prim.Native.Nat.{ℕ, ◌<◌, ◌≤◌}
+use Prim.Native.Nat.{ℕ, ◌^◌, ◌<◌, ◌≤◌}
 use native.Mathlib.Nat.{le_antisymm}
 use borrow.Author.Tests.{ltb-true, ltb-false, lt-ltb}
 use lib.Dec.{ltb}
 use lib.ListN.{get_or}
 use Rattle.kit.specs.Range.{any}
 use Rattle.kit.proofs.Bools.{clash, by_test, and_left, and_right, both_true}
-use Rattle.kit.proofs.Ranges.{any_hit, any_at, any_one}
+use Rattle.kit.proofs.Ranges.{any_hit, any_at, any_one, any_same}
 use Rattle.sets.specs.Sets.{member}
-use Rattle.vote.specs.Consider.{newer_copy, older_copy, in_way, in_way_above, blocked, blocked_above, considered}
+use Rattle.sets.proofs.Laws.{set_of_lt, member_set_of}
+use Rattle.vote.specs.Consider.{newer_copy, older_copy, pending_set, in_way, in_way_above, blocked, blocked_above, considered}
 use Rattle.vote.specs.Data.{is_pending, vote_at, head_at, head_of}
 use Rattle.vote.specs.Requests.{conflicts, outranks}
 use Rattle.vote.specs.declared.consider.Outcome.{Outcome}
@@ -24,6 +25,9 @@ use Rattle.vote.specs.declared.data.Vote.{Vote}
 
 pub conflict_means : (q o x : Head) {r b : Bool} → r ≡ conflicts q o → o ≡ x → r ≡ b → conflicts q x ≡ b
 conflict_means q o x e f g = rw (← f, ← e) g
+
+pub above_means : (q o x : Head) {r b : Bool} → r ≡ (conflicts q o && outranks o q) → o ≡ x → r ≡ b → (conflicts q x && outranks x q) ≡ b
+above_means q o x e f g = rw (← f, ← e) g
 
 -- ---- the four questions, item by item and place by place
 
@@ -164,6 +168,38 @@ above_blocked heads votes q e =
 
 pub not_blocked_not_above : (heads : List Head) (votes : List Vote) (q : Head) → blocked heads votes q ≡ false → blocked_above heads votes q ≡ false
 not_blocked_not_above heads votes q e = by_test (blocked_above heads votes q) (λ t. clash (above_blocked heads votes q t) e) (λ f. f)
+
+-- ---- the pending requests as a set of places
+
+pub pending_lt : {s : ℕ} (votes : List Vote) → s ≡ pending_set votes → s < 2 ^ 16
+unfolding pending_set
+pending_lt votes e = rw e (set_of_lt 16 (λ j. is_pending (vote_at votes j)))
+
+pending_at : (votes : List Vote) (j : ℕ) → j < 16 → member (pending_set votes) j ≡ is_pending (vote_at votes j)
+unfolding pending_set
+pending_at votes j h = member_set_of 16 (λ k. is_pending (vote_at votes k)) j h
+
+module _ (heads : List Head) (votes : List Vote) (q : Head) {s : ℕ} {b : Bool} (e : s ≡ pending_set votes) where
+  -- from it to the answers
+  pub blocked_from : b ≡ any 16 (λ j. member s j && conflicts q (head_at heads j)) → b ≡ blocked heads votes q
+  unfolding blocked in_way
+  blocked_from f =
+      f
+      ∙ any_same (λ j. member s j && conflicts q (head_at heads j)) (λ j. is_pending (vote_at votes j) && conflicts q (head_at heads j)) 16
+      (λ j h. rw (e, pending_at votes j h))
+
+  pub above_from
+      : b ≡ any 16 (λ j. member s j && (conflicts q (head_at heads j) && outranks (head_at heads j) q)) → b ≡ blocked_above heads votes q
+  unfolding blocked_above in_way_above in_way
+  above_from f =
+      f
+      ∙ any_same (λ j. member s j && (conflicts q (head_at heads j) && outranks (head_at heads j) q))
+      (λ j. (is_pending (vote_at votes j) && conflicts q (head_at heads j)) && outranks (head_at heads j) q) 16
+      (λ j h. rw (e, pending_at votes j h) (grouped (is_pending (vote_at votes j)) (conflicts q (head_at heads j)) (outranks (head_at heads j) q)))
+    where
+      grouped : (x y z : Bool) → (x && (y && z)) ≡ ((x && y) && z)
+      grouped true y z = refl
+      grouped false y z = refl
 
 -- ---- from the outcome to what held
 

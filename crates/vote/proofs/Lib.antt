@@ -1,6 +1,7 @@
 -- Laws of what one site does, each family in a file of its own.
 pub mod KnownVoters
 pub mod Rows
+pub mod VoteNumbers
 pub mod Queues
 pub mod Writes
 mod WrittenItems

@@ -1,7 +1,7 @@
 -- "To consider a request a site takes the first that fits."
 use Rattle.std.specs.Prelude.{ℕ, Bool, true, false, ◌&&◌, cond, List, ltb, get_or}
 use Rattle.kit.specs.Range.{any}
-use Rattle.sets.specs.Sets.{member}
+use Rattle.sets.specs.Sets.{set_of, member}
 use Rattle.vote.specs.Data.{is_pending, vote_at, head_at, head_of}
 use Rattle.vote.specs.Requests.{conflicts, outranks}
 use Rattle.vote.specs.declared.consider.Outcome.{Outcome}
@@ -19,6 +19,10 @@ newer_copy base based held = any 24 (λ i. member base i && ltb (get_or based i 
 -- 2. "some base stamp is larger than the copy's"
 unfoldable pub older_copy : ℕ → List ℕ → List ℕ → Bool
 older_copy base based held = any 24 (λ i. member base i && ltb (get_or held i 0) (get_or based i 0))
+
+-- the places of the pending requests, as a set
+unfoldable pub pending_set : List Vote → ℕ
+pending_set votes = set_of 16 (λ j. is_pending (vote_at votes j))
 
 -- a request o, voted v, is pending and q conflicts with it
 unfoldable pub in_way : Vote → Head → Head → Bool

@@ -7,3 +7,4 @@ pub mod Consider
 pub mod Queue
 pub mod Voting
 pub mod Verdicts
+pub mod Numbers

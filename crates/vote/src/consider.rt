@@ -1,7 +1,8 @@
 // Considering a request: document 01's five rules.
-ghost use Rattle.std.specs.Prelude.{◌≡◌};
-ghost use Rattle.vote.specs.Consider.{newer_copy, older_copy, in_way, in_way_above, blocked, blocked_above, weighed, considered, mark_of, defers};
+ghost use Rattle.std.specs.Prelude.{◌≡◌, ◌&&◌};
+ghost use Rattle.vote.specs.Consider.{newer_copy, older_copy, pending_set, blocked, blocked_above, weighed, considered, mark_of, defers};
 ghost use Rattle.vote.specs.Data.{heads_of, is_deferred, is_ok_vote, is_open, is_other, is_pending, is_unmarked};
+ghost use Rattle.vote.specs.Requests.{conflicts, outranks};
 
 use crate::data::{Head, Mark, Request, Verdict, Vote};
 use crate::requests::{head_of, is_conflicting, is_outranking};
@@ -86,44 +87,54 @@ pub fn is_older(base: u32, based: &[u64; 24], held: &[u64; 24]) -> bool
     is_newer(base, held, based)
 }
 
-// Whether the request o, voted v, is pending and q conflicts with it.
-#[tactic(auto, unfolding(crate::specs::Consider::in_way))]
-fn is_in_way(v: Vote, o: Head, q: Head) -> bool
-    ensures { result ≡ in_way v o q }
+// The places of the pending requests, as a set.
+fn pending_in(votes: &[Vote; 16]) -> u32
+    ensures { result ≡ pending_set votes.now }
 {
-    is_pending(v) && is_conflicting(q, o)
+    let mut set = 0;
+    for (j, v) in votes.iter().enumerate() {
+        set += u32::from(is_pending(*v)) << j;
+    }
+    set
 }
 
-// The same, and o has higher priority than q.
-#[tactic(auto, unfolding(crate::specs::Consider::in_way_above))]
-fn is_in_way_above(v: Vote, o: Head, q: Head) -> bool
-    ensures { result ≡ in_way_above v o q }
+// Whether o conflicts with q and has higher priority.
+fn is_above(o: Head, q: Head) -> bool
+    ensures { result ≡ (conflicts q o && outranks o q) }
 {
-    is_in_way(v, o, q) && is_outranking(o, q)
+    is_conflicting(q, o) && is_outranking(o, q)
 }
 
-// Whether q conflicts with a pending request. No turn leaves the loop, so that the tests can be made side by side.
-// Stays: a loop here and one in `is_blocked_above`; tried as `zip` and `any`, and the last goal stayed open. One loop for both
-// would ask for the test as a closure with a clause of its own, and is no plainer. No turn leaves it: with a branch the night took 1.2 times as long.
+// Whether q conflicts with a pending request. What is left of the pending gives up its lowest place at each turn.
+// Stays: a loop here and one in `is_blocked_above`: one loop for both would ask for the test as a closure with a clause of its own, and is no plainer.
+// Over the pending alone: a loop over all 16 took 1.4 times as long where a queue waits behind a pending request (docs/SPEED.md).
 pub fn is_blocked(requests: &[Request; 16], votes: &[Vote; 16], q: Head) -> bool
     ensures { result ≡ blocked (heads_of requests.now) votes.now q }
 {
-    let mut blocked = false;
-    for (o, v) in requests.iter().zip(votes) {
-        blocked |= is_in_way(*v, head_of(o), q);
+    let mut left = pending_in(votes);
+    while left != 0 {
+        let j = left.trailing_zeros() as usize;
+        if is_conflicting(q, head_of(&requests[j])) {
+            return true;
+        }
+        left &= left - 1;
     }
-    blocked
+    false
 }
 
 // Whether q conflicts with a pending request of higher priority.
 pub fn is_blocked_above(requests: &[Request; 16], votes: &[Vote; 16], q: Head) -> bool
     ensures { result ≡ blocked_above (heads_of requests.now) votes.now q }
 {
-    let mut blocked = false;
-    for (o, v) in requests.iter().zip(votes) {
-        blocked |= is_in_way_above(*v, head_of(o), q);
+    let mut left = pending_in(votes);
+    while left != 0 {
+        let j = left.trailing_zeros() as usize;
+        if is_above(head_of(&requests[j]), q) {
+            return true;
+        }
+        left &= left - 1;
     }
-    blocked
+    false
 }
 
 // What a site makes of the request with head q whose base stamps are those of its copy, where `votes` is what it has said of the requests.

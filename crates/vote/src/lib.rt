@@ -3,6 +3,7 @@
 
 pub mod consider;
 pub mod data;
+pub mod numbers;
 pub mod queue;
 pub mod requests;
 pub mod verdicts;

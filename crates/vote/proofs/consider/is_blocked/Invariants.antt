@@ -1,10 +1,19 @@
--- `vote::consider::is_blocked` meets its contract: a turn notes whether the request there is in the way.
-use lib.ListN.{length}
-use Rattle.std.proofs.Common.{◌≡◌}
-use Rattle.kit.specs.Range.{any}
-use Rattle.vote.specs.Consider.{in_way}
-use Rattle.vote.specs.Data.{vote_at, head_at, heads_of}
+-- `vote::consider::is_blocked` meets its contract: a loop over the pending that returns at the first hit computes `any`.
+use mathlib.Core.Bool.{Bool}
+use mathlib.Core.List.{List}
+use Prim.Native.Nat.{ℕ}
+use Rattle.sets.proofs.Lowest.{Sought}
+use Rattle.vote.specs.Data.{head_at, heads_of}
+use Rattle.vote.specs.Requests.{conflicts}
+use Rattle.vote.specs.declared.data.Head.{Head}
 use Rattle.vote.proofs.consider.is_blocked.Given as goal
 
-abbrev pub invariant-loop-o : goal.invariant-loop-o
-invariant-loop-o l = l.blocked ≡ any (length l.yielded) (λ j. in_way (vote_at l.votes j) (head_at (heads_of l.requests) j) l.q)
+-- the request at place j conflicts with q
+abbrev pub stands : Head → List Head → ℕ → Bool
+stands q heads j = conflicts q (head_at heads j)
+
+abbrev pub invariant-loop-left : goal.invariant-loop-left
+invariant-loop-left l = Sought l.initial.left (stands l.q (heads_of l.requests)) l.left
+
+abbrev pub decreases-loop-left : goal.decreases-loop-left
+decreases-loop-left l = l.left

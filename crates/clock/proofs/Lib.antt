@@ -1,0 +1,2 @@
+-- What the proofs of `clock` share.
+pub mod Laws

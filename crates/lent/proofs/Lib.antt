@@ -1,0 +1,2 @@
+-- What the proofs by hand cite.
+pub mod Steps
