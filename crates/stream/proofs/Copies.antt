@@ -4,8 +4,7 @@ use mathlib.Core.Bool.{true}
 use mathlib.Core.List.{List, ◌++◌}
 use Prim.Native.Nat.{ℕ, suc, ◌+◌, ◌≤◌, ◌<◌}
 use native.Mathlib.Omega.{arith}
-use lib.ListN.{length, take, drop, length-append}
-use lib.Seq.{length-take-le, take-append_seam}
+use lib.ListN.{length, take, drop}
 use Rattle.sitefile.specs.Entries.{file_of}
 use Rattle.sitefile.specs.Write.{file_written, buffer_after}
 use Rattle.sitefile.specs.Write.{Written}
@@ -14,6 +13,7 @@ use Rattle.table.specs.Places.{site_at}
 use Rattle.table.specs.Sound.{sound_table}
 use Rattle.table.specs.declared.data.Table.{Table}
 use Rattle.filed.proofs.Filed.{copy_not_refused, copy_written}
+use Rattle.stream.proofs.Laws.{in_front}
 
 -- the buffer d became e when the writer answered w for the site of this digit and the readings at place i: the front of e is the file of site k
 abbrev Filed : (t : Table) (k : ℕ) (d e : List ℕ) (w : Written) → ℕ → ℕ → Type 0
@@ -32,12 +32,7 @@ module _ (t : Table) (k : ℕ) (d e : List ℕ) (w : Written) (sound : sound_tab
 
   filed : Filed t k d e w k (suc k)
   unfolding file
-  filed a b =
-      let long : w.length ≡ length file = ap (λ (v : Written). v.length) (a ∙ copy_written t sound k here (length d) room) in
-      let bytes : e ≡ file ++ drop (length file) d = b ∙ front in
-      let taken : take w.length e ≡ file = rw (long, bytes) (take-append_seam file (drop (length file) d)) in
-      let inside : w.length ≤ length e = rw (long, bytes, length-append file (drop (length file) d)) (omega arith) in
-      ((inside, sym (length-take-le w.length e inside)), taken)
+  filed a b = in_front file (drop (length file) d) e w.length (ap (λ (v : Written). v.length) (a ∙ copy_written t sound k here (length d) room)) (b ∙ front)
 
   pub copy_in : (i : ℕ) → i ≡ k → Filed t k d e w i (k + 1)
   copy_in i p = let n : suc k ≡ k + 1 = omega arith in subst (λ (j : ℕ). Filed t k d e w j (k + 1)) (sym p) (subst (Filed t k d e w k) n filed)

@@ -1,13 +1,13 @@
 -- What the loop from input to output needs: a line lies at the front of its buffer, and what a run leaves is sound and still inside.
 use mathlib.Core.Path.{◌≡◌, sym, ap, ◌∙◌}
 use mathlib.Core.Bool.{true}
-use mathlib.Core.List.{List, []}
+use mathlib.Core.List.{List, [], ◌++◌}
 use Prim.Native.Nat.{ℕ, ◌+◌, ◌-◌, ◌≤◌}
 use native.Mathlib.Omega.{arith}
-use lib.ListN.{length, take, drop, length-drop}
+use lib.ListN.{length, take, drop, length-append, length-drop}
 use lib.Seq.{length-take-le, take-append_seam}
-use Rattle.kit.specs.Lists.{put, placed}
-use Rattle.kit.proofs.Puts.{placed_in, length_put, put_front}
+use Rattle.kit.specs.Lists.{placed}
+use Rattle.kit.proofs.Puts.{placed_in, put_front}
 use Rattle.lines.specs.Lines.{fitted}
 use Rattle.lines.proofs.Writes.{fitted_in}
 use Rattle.table.specs.Fresh.{fresh_for}
@@ -22,16 +22,17 @@ use Rattle.steps.proofs.Upkeep.{Well}
 use Rattle.stream.specs.Counts.{IsPrefixLen}
 use Rattle.stream.specs.Stands.{Stands}
 
--- ---- lines in buffers
+-- ---- at the front of a buffer
 
--- a line for which the buffer d has room is whole at its front when it was written
+-- what a buffer begins with, and as many bytes as that has
+pub in_front : (e rest d' : List ℕ) (n : ℕ) → n ≡ length e → d' ≡ e ++ rest → IsPrefixLen n d' × (take n d' ≡ e)
+in_front e rest d' n long bytes =
+    let inside : n ≤ length d' = rw (long, bytes, length-append e rest) (omega arith) in
+    ((inside, sym (length-take-le n d' inside)), rw (long, bytes) (take-append_seam e rest))
+
+-- a line for which the buffer d has room is whole there when it was written
 pub line_in_front : (d e d' : List ℕ) (n : ℕ) → length e ≤ length d → n ≡ fitted d 0 e → d' ≡ placed d 0 e → IsPrefixLen n d' × (take n d' ≡ e)
-line_in_front d e d' n h a b =
-    let whole : n ≡ length e = a ∙ fitted_in d 0 e (omega arith) in
-    let put_there : d' ≡ put d 0 e = b ∙ placed_in d 0 e (omega arith) in
-    let long : length d' ≡ length d = ap length put_there ∙ length_put d 0 e (omega arith) in
-    let inside : n ≤ length d' = omega arith in
-    ((inside, sym (length-take-le n d' inside)), rw (whole, put_there, put_front d e) (take-append_seam e (drop (length e) d)))
+line_in_front d e d' n h a b = in_front e (drop (length e) d) d' n (a ∙ fitted_in d 0 e (omega arith)) (b ∙ placed_in d 0 e (omega arith) ∙ put_front d e)
 
 -- ---- tables
 
